@@ -88,11 +88,11 @@ stores (Some r) h = by (is_idle r.state) h
 -- a list that is set fits
 fits_list : (verdicts : Verdicts) (plan : PlanData) (older : Past) (fh : FhId) (which : Which) (id : Option RequestId) (pairs : List Pair) → meant_check verdicts plan older true which id ≡ None
     → FitsFrames verdicts plan older (pairs_step (meant which id) fh pairs)
-fits_list verdicts plan older fh Request (Some r) pairs h = stores (request verdicts plan older r.0) h
-fits_list verdicts plan older fh Request None pairs h = tt
-fits_list verdicts plan older fh Current id pairs h = tt
-fits_list verdicts plan older fh Defaults id pairs h = tt
-fits_list verdicts plan older fh (Class n) id pairs h = tt
+fits_list verdicts plan older fh Request (Some r) pairs h = (stores (request verdicts plan older r.0) h, tt)
+fits_list verdicts plan older fh Request None pairs h = (refl, tt)
+fits_list verdicts plan older fh Current id pairs h = (refl, tt)
+fits_list verdicts plan older fh Defaults id pairs h = (refl, tt)
+fits_list verdicts plan older fh (Class n) id pairs h = (refl, tt)
 
 -- a frame that is begun fits
 fits_begin : (verdicts : Verdicts) (plan : PlanData) (older : Past) (step : Step) → fault_of (begin_frame_answer verdicts plan older) ≡ None
@@ -105,7 +105,7 @@ fits_begin verdicts plan older step unrefused adds = by (running older) (queue o
     by None [] is_running is_queue h = cc
     by None (r ∷ rest) is_running is_queue h =
         subst (FitsFrames verdicts plan older) (same_step (steps.Begin (record { 0 = r })) step (sym (ap (λ (ids : List ℕ). option_map (λ i. steps.Begin (record { 0 = i })) (first_of ids)) is_queue) ∙ adds))
-        (is_running, ap first_of is_queue)
+        (refl, (is_running, ap first_of is_queue))
 
 -- a frame that is ended fits
 fits_complete : (verdicts : Verdicts) (plan : PlanData) (older : Past) (step : Step) → option_map (λ r. steps.Complete (record { 0 = r })) (running older) ≡ Some step → FitsFrames verdicts plan older step
@@ -117,7 +117,7 @@ fits_complete verdicts plan older step adds = by (running older) refl
         none : None ≡ Some step → ⊥
         none h = cc
     by (Some r) is =
-        subst (FitsFrames verdicts plan older) (same_step (steps.Complete (record { 0 = r })) step (sym (ap (option_map (λ i. steps.Complete (record { 0 = i }))) is) ∙ adds)) is
+        subst (FitsFrames verdicts plan older) (same_step (steps.Complete (record { 0 = r })) step (sym (ap (option_map (λ i. steps.Complete (record { 0 = i }))) is) ∙ adds)) (refl, is)
 
 nothing : (verdicts : Verdicts) (plan : PlanData) (older : Past) (step : Step) → None ≡ Some step → FitsFrames verdicts plan older step
 nothing verdicts plan older step h = cc
@@ -131,34 +131,34 @@ fits verdicts plan older step may = by may.0 may.1 may.2
 
     subscribes : (f : FhId) (flags : SubFlags) (o : Option ℕ) → option_map (λ c. steps.Subscribe f c flags) o ≡ Some step → FitsFrames verdicts plan older step
     subscribes f flags None adds = nothing verdicts plan older step adds
-    subscribes f flags (Some c) adds = is (steps.Subscribe f c flags) tt adds
+    subscribes f flags (Some c) adds = is (steps.Subscribe f c flags) (refl, tt) adds
 
     takes : (f : FhId) (o : Option ℕ) → option_map (λ c. steps.Take f c) o ≡ Some step → FitsFrames verdicts plan older step
     takes f None adds = nothing verdicts plan older step adds
-    takes f (Some c) adds = is (steps.Take f c) tt adds
+    takes f (Some c) adds = is (steps.Take f c) (refl, tt) adds
 
     by : (ask : Ask) → refusal verdicts plan older ask ≡ None → step_of verdicts plan older ask ≡ Some step → FitsFrames verdicts plan older step
-    by (asks.OpenFh handler) h adds = is _ tt adds
-    by (asks.CloseFh fh) h adds = is _ tt adds
+    by (asks.OpenFh handler) h adds = is (steps.OpenFh handler) (refl, tt) adds
+    by (asks.CloseFh fh) h adds = is (steps.CloseFh fh) (refl, tt) adds
     by (asks.SetCtrls fh which id list) h adds =
         is (pairs_step (meant (which_or (which_of which)) id) fh (list_pairs plan older fh which list))
         (fits_list verdicts plan older fh (which_or (which_of which)) id (list_pairs plan older fh which list)
         (meant_passes verdicts plan older fh which id true
         (list_opens _ (opening_checks verdicts plan older fh which id true) (write_checks verdicts plan (write_view verdicts plan older fh which id) true list ++ refused_if (is_full older) ListHistoryFull ∷ []) _ h)))
         adds
-    by (asks.Grab c on) h adds = is _ tt adds
-    by (asks.ModifyRange c low high apart default_value) h adds = is _ tt adds
-    by asks.Alloc h adds = is _ tt adds
-    by (asks.AddBuffer r number) h adds = is (steps.Buffer r number) (unrefused_step _ older _ h) adds
-    by (asks.Queue r) h adds = is (steps.Queue r) (unrefused_step _ older _ h) adds
+    by (asks.Grab c on) h adds = is (steps.Grab c on) (refl, tt) adds
+    by (asks.ModifyRange c low high apart default_value) h adds = is (steps.ModifyRange c low high apart default_value) (refl, tt) adds
+    by asks.Alloc h adds = is steps.Alloc (unrefused_step _ older _ h, tt) adds
+    by (asks.AddBuffer r number) h adds = is (steps.Buffer r number) (unrefused_step _ older _ h, tt) adds
+    by (asks.Queue r) h adds = is (steps.Queue r) (unrefused_step _ older _ h, tt) adds
     by asks.Begin h adds = fits_begin verdicts plan older step h adds
     by asks.Complete h adds = fits_complete verdicts plan older step adds
-    by (asks.Cancel r) h adds = is (steps.Cancel r) (unrefused_step _ older _ h) adds
-    by asks.StreamOff h adds = is _ tt adds
-    by (asks.Reinit r) h adds = is (steps.Reinit r) (unrefused_step _ older _ h) adds
-    by (asks.Free r) h adds = is (steps.Free r) (unrefused_step _ older _ h) adds
+    by (asks.Cancel r) h adds = is (steps.Cancel r) (unrefused_step _ older _ h, tt) adds
+    by asks.StreamOff h adds = is steps.StreamOff (refl, tt) adds
+    by (asks.Reinit r) h adds = is (steps.Reinit r) (unrefused_step _ older _ h, tt) adds
+    by (asks.Free r) h adds = is (steps.Free r) (unrefused_step _ older _ h, tt) adds
     by (asks.Subscribe fh id flags) h adds = subscribes fh flags (shown plan older fh id) adds
-    by (asks.Unsubscribe fh id) h adds = is _ tt adds
+    by (asks.Unsubscribe fh id) h adds = is (steps.Unsubscribe fh (shown plan older fh id)) (refl, tt) adds
     by (asks.Take fh) h adds = takes fh (first_control (pending verdicts plan older fh)) adds
     by _ h adds = nothing verdicts plan older step adds
 

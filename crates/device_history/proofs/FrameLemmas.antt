@@ -111,19 +111,19 @@ pub next_none : (verdicts : Verdicts) (plan : PlanData) (older : Past) → AllFi
 next_none verdicts plan older fit = never_made verdicts plan older (length older) fit (next_not_made older)
 
 -- an allocation makes the last request
-requests_made : (verdicts : Verdicts) (plan : PlanData) (e : Entry Step) (older : Past) → e.step ≡ Alloc → AllFit verdicts plan older → requests verdicts plan (e ∷ older) ≡ requests verdicts plan older ++ new_request (length older) ∷ []
+requests_made : (verdicts : Verdicts) (plan : PlanData) (e : Entry Step) (older : Past) → e.step ≡ Alloc → AllFit verdicts plan older → FitsFrames verdicts plan older Alloc → requests verdicts plan (e ∷ older) ≡ requests verdicts plan older ++ new_request (length older) ∷ []
 unfolding ever_made
-requests_made verdicts plan e older is fit =
+requests_made verdicts plan e older is fit fits =
     ap (λ ids. filter_map (request verdicts plan (e ∷ older)) (ever_made older ++ ids)) (ap (made (length older)) is)
     ∙ filter_map-append (request verdicts plan (e ∷ older)) (ever_made older) (length older ∷ [])
     ∙ ap (λ qs. qs ++ cons_option (request verdicts plan (e ∷ older) (length older)) []) (same_but (request verdicts plan older) (request verdicts plan (e ∷ older)) (length older) (ever_made older) others (next_not_made older))
     ∙ ap (λ o. requests verdicts plan older ++ cons_option o []) own
   where
     others : (j : ℕ) → nat_eq (length older) j ≡ false → request verdicts plan (e ∷ older) j ≡ request verdicts plan older j
-    others j off = after_step verdicts plan e older Alloc is fit tt j ∙ ap (λ b. cond b (Some (new_request (length older))) (request verdicts plan older j)) off
+    others j off = after_step verdicts plan e older Alloc is fit fits j ∙ ap (λ b. cond b (Some (new_request (length older))) (request verdicts plan older j)) off
 
     own : request verdicts plan (e ∷ older) (length older) ≡ Some (new_request (length older))
-    own = after_step verdicts plan e older Alloc is fit tt (length older) ∙ ap (λ b. cond b (Some (new_request (length older))) (request verdicts plan older (length older))) (eq-eqb (length older) (length older) refl)
+    own = after_step verdicts plan e older Alloc is fit fits (length older) ∙ ap (λ b. cond b (Some (new_request (length older))) (request verdicts plan older (length older))) (eq-eqb (length older) (length older) refl)
 
 -- a step that changes one request
 requests_changed : (verdicts : Verdicts) (plan : PlanData) (older : Past) (r : ℕ) (f : RequestData → RequestData)
@@ -243,15 +243,15 @@ after_kept : (verdicts : Verdicts) (plan : PlanData) (older : Past) (step : Step
 after_kept verdicts plan older Alloc fit kept fits = added_kept (frames verdicts plan older) (length older) kept (find_request verdicts plan older (length older) fit ∙ next_none verdicts plan older fit)
 after_kept verdicts plan older (Store r pairs) fit kept fits = state_kept (frames verdicts plan older) r.0 (with_pairs (length plan.controls) pairs) kept (λ q. refl) (λ q. refl) (λ q h. h)
 after_kept verdicts plan older (Buffer r number) fit kept fits = state_kept (frames verdicts plan older) r.0 (with_buffer number) kept (λ q. refl) (λ q. refl) (λ q h. refl)
-after_kept verdicts plan older (Queue r) fit kept fits = queued_kept (frames verdicts plan older) r.0 kept (ap queue_check (find_request verdicts plan older r.0 fit) ∙ fits)
+after_kept verdicts plan older (Queue r) fit kept fits = queued_kept (frames verdicts plan older) r.0 kept (ap queue_check (find_request verdicts plan older r.0 fit) ∙ fits.0)
 after_kept verdicts plan older (Begin r) fit kept fits =
-    let first = first_waits (queue older) r.0 fits.1 in
-    subst QueueFitsRequests (sym (begin_is (frames verdicts plan older) (begun_pairs verdicts plan older r.0) r.0 first.0 fits.0 first.1)) (begun_kept (frames verdicts plan older) r.0 first.0 (begun_pairs verdicts plan older r.0) kept first.1 fits.0)
-after_kept verdicts plan older (Complete r) fit kept fits = subst QueueFitsRequests (sym (complete_is (frames verdicts plan older) (now verdicts plan older) r.0 fits)) (completed_kept (frames verdicts plan older) r.0 (now verdicts plan older) kept fits)
-after_kept verdicts plan older (Cancel r) fit kept fits = cancelled_kept (frames verdicts plan older) r.0 (now verdicts plan older) kept (ap cancel_check (find_request verdicts plan older r.0 fit) ∙ fits)
+    let first = first_waits (queue older) r.0 fits.1.1 in
+    subst QueueFitsRequests (sym (begin_is (frames verdicts plan older) (begun_pairs verdicts plan older r.0) r.0 first.0 fits.1.0 first.1)) (begun_kept (frames verdicts plan older) r.0 first.0 (begun_pairs verdicts plan older r.0) kept first.1 fits.1.0)
+after_kept verdicts plan older (Complete r) fit kept fits = subst QueueFitsRequests (sym (complete_is (frames verdicts plan older) (now verdicts plan older) r.0 fits.1)) (completed_kept (frames verdicts plan older) r.0 (now verdicts plan older) kept fits.1)
+after_kept verdicts plan older (Cancel r) fit kept fits = cancelled_kept (frames verdicts plan older) r.0 (now verdicts plan older) kept (ap cancel_check (find_request verdicts plan older r.0 fit) ∙ fits.0)
 after_kept verdicts plan older StreamOff fit kept fits = off_kept (now verdicts plan older) (frames verdicts plan older)
-after_kept verdicts plan older (Reinit r) fit kept fits = cleared_kept (frames verdicts plan older) r.0 kept (ap clear_check (find_request verdicts plan older r.0 fit) ∙ fits)
-after_kept verdicts plan older (Free r) fit kept fits = freed_kept (frames verdicts plan older) r.0 kept (ap clear_check (find_request verdicts plan older r.0 fit) ∙ fits)
+after_kept verdicts plan older (Reinit r) fit kept fits = cleared_kept (frames verdicts plan older) r.0 kept (ap clear_check (find_request verdicts plan older r.0 fit) ∙ fits.0)
+after_kept verdicts plan older (Free r) fit kept fits = freed_kept (frames verdicts plan older) r.0 kept (ap clear_check (find_request verdicts plan older r.0 fit) ∙ fits.0)
 after_kept verdicts plan older _ fit kept fits = kept
 
 -- the requests, the queue and the running one after one more entry, where those before it are as they are to be
@@ -305,34 +305,34 @@ frames_from verdicts plan e older fit kept fits = by e.step refl fits
     by Alloc is fits =
         let none : request verdicts plan older (length older) ≡ None = next_none verdicts plan older fit in
         seen_same (rs (requests verdicts plan (e ∷ older))) (rs (requests verdicts plan older ++ new_request (length older) ∷ [])) (queue (e ∷ older)) (queue older) (running (e ∷ older)) (running older)
-        (ap rs (requests_made verdicts plan e older is fit)) (line Alloc is ∙ line_stays (length older) (ap (is_in is_queued) none)) (turn Alloc is ∙ turn_stays (length older) (ap (is_in is_running) none))
-    by (Store r pairs) is fits = resting _ is fits refl r.0 (with_pairs (length plan.controls) pairs) (idle_rests (was r.0) (store_idle (was r.0) fits)) (λ j. refl) refl refl
-    by (Buffer r number) is fits = resting _ is fits refl r.0 (with_buffer number) (idle_rests (was r.0) (buffer_idle (requests verdicts plan older) number (was r.0) fits)) (λ j. refl) refl refl
+        (ap rs (requests_made verdicts plan e older is fit fits)) (line Alloc is ∙ line_stays (length older) (ap (is_in is_queued) none)) (turn Alloc is ∙ turn_stays (length older) (ap (is_in is_running) none))
+    by (Store r pairs) is fits = resting _ is fits refl r.0 (with_pairs (length plan.controls) pairs) (idle_rests (was r.0) (store_idle (was r.0) fits.0)) (λ j. refl) refl refl
+    by (Buffer r number) is fits = resting _ is fits refl r.0 (with_buffer number) (idle_rests (was r.0) (buffer_idle (requests verdicts plan older) number (was r.0) fits.0)) (λ j. refl) refl refl
     by (Queue r) is fits =
-        let rest = idle_rests (was r.0) (queue_idle (was r.0) fits) in
+        let rest = idle_rests (was r.0) (queue_idle (was r.0) fits.0) in
         seen_same (rs (requests verdicts plan (e ∷ older))) (with_changed (rs (requests verdicts plan older)) r.0 (queued (length plan.controls))) (queue (e ∷ older)) (queue older ++ r.0 ∷ []) (running (e ∷ older)) (running older)
         (one _ is fits refl r.0 (queued (length plan.controls)) (λ j. refl)) (line _ is ∙ ap (λ ids. ids ++ r.0 ∷ []) (line_stays r.0 rest.0)) (turn _ is ∙ turn_stays r.0 rest.1)
     by (Begin r) is fits =
-        let first = first_waits (queue older) r.0 fits.1 in
+        let first = first_waits (queue older) r.0 fits.1.1 in
         let once : AreOnce (r.0 ∷ first.0) = subst AreOnce first.1 kept.once in
         seen_same (rs (requests verdicts plan (e ∷ older))) (with_changed (rs (requests verdicts plan older)) r.0 (begun (length plan.controls) (begun_pairs verdicts plan older r.0))) (queue (e ∷ older)) first.0 (running (e ∷ older)) (Some r.0)
         (one _ is fits refl r.0 (begun (length plan.controls) (begun_pairs verdicts plan older r.0)) (λ j. refl)) (line _ is ∙ ap (all_but r.0) first.1 ∙ tail_stays r.0 first.0 once.0) (turn _ is)
-        ∙ sym (begin_is (frames verdicts plan older) (begun_pairs verdicts plan older r.0) r.0 first.0 fits.0 first.1)
+        ∙ sym (begin_is (frames verdicts plan older) (begun_pairs verdicts plan older r.0) r.0 first.0 fits.1.0 first.1)
     by (Complete r) is fits =
-        let run : is_in is_running (request verdicts plan older r.0) ≡ true = sym (ap (is_in is_running) (find_request verdicts plan older r.0 fit)) ∙ sym (kept.runs r.0) ∙ ap (λ o. is_number o r.0) fits ∙ eq-eqb r.0 r.0 refl in
-        let done : unless_equal r.0 (running older) ≡ None = ap (unless_equal r.0) fits ∙ ap (λ b. cond b None (Some r.0)) (eq-eqb r.0 r.0 refl) in
+        let run : is_in is_running (request verdicts plan older r.0) ≡ true = sym (ap (is_in is_running) (find_request verdicts plan older r.0 fit)) ∙ sym (kept.runs r.0) ∙ ap (λ o. is_number o r.0) fits.1 ∙ eq-eqb r.0 r.0 refl in
+        let done : unless_equal r.0 (running older) ≡ None = ap (unless_equal r.0) fits.1 ∙ ap (λ b. cond b None (Some r.0)) (eq-eqb r.0 r.0 refl) in
         seen_same (rs (requests verdicts plan (e ∷ older))) (with_changed (rs (requests verdicts plan older)) r.0 (completed (now verdicts plan older))) (queue (e ∷ older)) (queue older) (running (e ∷ older)) None
         (one _ is fits refl r.0 (completed (now verdicts plan older)) (λ j. refl)) (line _ is ∙ line_stays r.0 (runs_only (was r.0) run)) (turn _ is ∙ done)
-        ∙ sym (complete_is (frames verdicts plan older) (now verdicts plan older) r.0 fits)
+        ∙ sym (complete_is (frames verdicts plan older) (now verdicts plan older) r.0 fits.1)
     by (Cancel r) is fits =
         seen_same (rs (requests verdicts plan (e ∷ older))) (with_changed (rs (requests verdicts plan older)) r.0 (completed (now verdicts plan older))) (queue (e ∷ older)) (all_but r.0 (queue older)) (running (e ∷ older)) (running older)
-        (one _ is fits refl r.0 (completed (now verdicts plan older)) (λ j. refl)) (line _ is) (turn _ is ∙ turn_stays r.0 (cancel_waits (was r.0) fits))
+        (one _ is fits refl r.0 (completed (now verdicts plan older)) (λ j. refl)) (line _ is) (turn _ is ∙ turn_stays r.0 (cancel_waits (was r.0) fits.0))
     by StreamOff is fits =
         seen_same (rs (requests verdicts plan (e ∷ older))) (rs (map (ended_request (now verdicts plan older)) (requests verdicts plan older))) (queue (e ∷ older)) [] (running (e ∷ older)) None
         (ap rs (requests_more verdicts plan e older StreamOff is fit fits refl ∙ all_changed was (ended_request (now verdicts plan older)) (ever_made older))) (line _ is) (turn _ is)
-    by (Reinit r) is fits = resting _ is fits refl r.0 cleared (rests (was r.0) fits) (λ j. refl) refl refl
+    by (Reinit r) is fits = resting _ is fits refl r.0 cleared (rests (was r.0) fits.0) (λ j. refl) refl refl
     by (Free r) is fits =
-        let rest = rests (was r.0) fits in
+        let rest = rests (was r.0) fits.0 in
         seen_same (rs (requests verdicts plan (e ∷ older))) (rs (without r.0 (requests verdicts plan older))) (queue (e ∷ older)) (queue older) (running (e ∷ older)) (running older)
         (ap rs (requests_more verdicts plan e older _ is fit fits refl ∙ freed_listed (request verdicts plan older) (ever_made older) r.0 (request_named verdicts plan older)))
         (line _ is ∙ line_stays r.0 rest.0) (turn _ is ∙ turn_stays r.0 rest.1)

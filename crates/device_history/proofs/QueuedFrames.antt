@@ -67,13 +67,13 @@ frame_stands verdicts plan older steps.Alloc j fit fits waits =
     let other : nat_eq (length older) j ≡ false = others verdicts plan older (length older) j (ap (is_in is_queued) (next_none verdicts plan older fit)) waits in
     rw (other, asked_same plan older j) refl
 frame_stands verdicts plan older (steps.Store r pairs) j fit fits waits =
-    let other : nat_eq r.0 j ≡ false = others verdicts plan older r.0 j (idle_rests (request verdicts plan older r.0) (store_idle (request verdicts plan older r.0) fits)).0 waits in
+    let other : nat_eq r.0 j ≡ false = others verdicts plan older r.0 j (idle_rests (request verdicts plan older r.0) (store_idle (request verdicts plan older r.0) fits.0)).0 waits in
     rw (other, asked_same plan older j) refl
 frame_stands verdicts plan older (steps.Buffer r number) j fit fits waits =
-    let other : nat_eq r.0 j ≡ false = others verdicts plan older r.0 j (idle_rests (request verdicts plan older r.0) (buffer_idle (requests verdicts plan older) number (request verdicts plan older r.0) fits)).0 waits in
+    let other : nat_eq r.0 j ≡ false = others verdicts plan older r.0 j (idle_rests (request verdicts plan older r.0) (buffer_idle (requests verdicts plan older) number (request verdicts plan older r.0) fits.0)).0 waits in
     rw (other, asked_same plan older j) refl
 frame_stands verdicts plan older (steps.Reinit r) j fit fits waits =
-    let other : nat_eq r.0 j ≡ false = others verdicts plan older r.0 j (rests (request verdicts plan older r.0) fits).0 waits in
+    let other : nat_eq r.0 j ≡ false = others verdicts plan older r.0 j (rests (request verdicts plan older r.0) fits.0).0 waits in
     rw (other, asked_same plan older j) refl
 frame_stands verdicts plan older _ j fit fits waits = rw (asked_same plan older j) refl
 
@@ -131,8 +131,8 @@ frames_waiting verdicts plan e older fit fits = by e.step refl fits
 
     begun : (r : RequestId) → e.step ≡ steps.Begin r → FitsFrames verdicts plan older (steps.Begin r) → queued_frames plan (e ∷ older) ≡ drop 1 (queued_frames plan older)
     begun r is fits_it =
-        let first = first_waits (queue older) r.0 fits_it.1 in
-        ap (map (queued_frame plan (e ∷ older))) (turn (steps.Begin r) is ∙ ap (λ (f : FramesData). f.queue) (begin_is (frames verdicts plan older) (begun_pairs verdicts plan older r.0) r.0 first.0 fits_it.0 first.1))
+        let first = first_waits (queue older) r.0 fits_it.1.1 in
+        ap (map (queued_frame plan (e ∷ older))) (turn (steps.Begin r) is ∙ ap (λ (f : FramesData). f.queue) (begin_is (frames verdicts plan older) (begun_pairs verdicts plan older r.0) r.0 first.0 fits_it.1.0 first.1))
         ∙ ap (λ (ids : List ℕ). drop 1 (map (queued_frame plan (e ∷ older)) ids)) (sym first.1) ∙ ap (drop 1) stand
 
     taken : (r : RequestId) → e.step ≡ steps.Cancel r → queued_frames plan (e ∷ older) ≡ filter (λ q. not (nat_eq r.0 q.request.0)) (queued_frames plan older)
@@ -143,7 +143,7 @@ frames_waiting verdicts plan e older fit fits = by e.step refl fits
     by : (step : Step) → e.step ≡ step → FitsFrames verdicts plan older step → queued_frames plan (e ∷ older) ≡ waiting_after plan older step (queued_frames plan older)
     by (steps.Queue r) is fits_it = queued r is
     by (steps.Begin r) is fits_it = begun r is fits_it
-    by (steps.Complete r) is fits_it = same _ is (ap (λ (f : FramesData). f.queue) (complete_is (frames verdicts plan older) (now verdicts plan older) r.0 fits_it))
+    by (steps.Complete r) is fits_it = same _ is (ap (λ (f : FramesData). f.queue) (complete_is (frames verdicts plan older) (now verdicts plan older) r.0 fits_it.1))
     by (steps.Cancel r) is fits_it = taken r is
     by steps.StreamOff is fits_it = ap (map (queued_frame plan (e ∷ older))) (turn steps.StreamOff is)
     by _ is fits_it = same _ is refl

@@ -327,17 +327,17 @@ early_after verdicts plan older steps.Alloc j fits rest early = by (eqb_tells (l
 early_after verdicts plan older (steps.Store r pairs) j fits rest early = by (eqb_tells r.0 j)
   where
     by : Tells r.0 j → before_begin j older ≡ None
-    by (inl same) = rest (ap (λ (i : ℕ). is_early (state older i)) (sym same.1) ∙ ap is_early (stored_idle verdicts plan older r.0 fits))
+    by (inl same) = rest (ap (λ (i : ℕ). is_early (state older i)) (sym same.1) ∙ ap is_early (stored_idle verdicts plan older r.0 fits.0))
     by (inr other) = rest (rw other.0 at early)
 early_after verdicts plan older (steps.Buffer r number) j fits rest early = by (eqb_tells r.0 j)
   where
     by : Tells r.0 j → before_begin j older ≡ None
-    by (inl same) = rest (ap (λ (i : ℕ). is_early (state older i)) (sym same.1) ∙ ap is_early (buffered_idle verdicts plan older (requests verdicts plan older) number r.0 fits))
+    by (inl same) = rest (ap (λ (i : ℕ). is_early (state older i)) (sym same.1) ∙ ap is_early (buffered_idle verdicts plan older (requests verdicts plan older) number r.0 fits.0))
     by (inr other) = rest (rw other.0 at early)
 early_after verdicts plan older (steps.Queue r) j fits rest early = by (eqb_tells r.0 j)
   where
     by : Tells r.0 j → before_begin j older ≡ None
-    by (inl same) = rest (ap (λ (i : ℕ). is_early (state older i)) (sym same.1) ∙ ap is_early (queued_idle verdicts plan older r.0 fits))
+    by (inl same) = rest (ap (λ (i : ℕ). is_early (state older i)) (sym same.1) ∙ ap is_early (queued_idle verdicts plan older r.0 fits.0))
     by (inr other) = rest (rw other.0 at early)
 early_after verdicts plan older (steps.Begin r) j fits rest early = by (eqb_tells r.0 j)
   where
@@ -385,16 +385,16 @@ early_unbegun verdicts plan (e ∷ older) fit j early =
 after_step : (verdicts : Verdicts) (plan : PlanData) (older : Past) (step : Step) → AllFit verdicts plan older → FitsFrames verdicts plan older step
     → (j : ℕ) → fields_after verdicts plan older step j ≡ request_after verdicts plan older (length older) step j (request verdicts plan older j)
 after_step verdicts plan older steps.Alloc fit fits j = made_request verdicts plan older j
-after_step verdicts plan older (steps.Store r pairs) fit fits j = stored_request verdicts plan older r pairs j (stored_idle verdicts plan older r.0 fits)
-after_step verdicts plan older (steps.Buffer r number) fit fits j = buffered_request verdicts plan older r number j (buffered_idle verdicts plan older (requests verdicts plan older) number r.0 fits)
+after_step verdicts plan older (steps.Store r pairs) fit fits j = stored_request verdicts plan older r pairs j (stored_idle verdicts plan older r.0 fits.0)
+after_step verdicts plan older (steps.Buffer r number) fit fits j = buffered_request verdicts plan older r number j (buffered_idle verdicts plan older (requests verdicts plan older) number r.0 fits.0)
 after_step verdicts plan older (steps.Queue r) fit fits j =
-    let idle : state older r.0 ≡ Some Idle = queued_idle verdicts plan older r.0 fits in
+    let idle : state older r.0 ≡ Some Idle = queued_idle verdicts plan older r.0 fits.0 in
     queued_request verdicts plan older r j idle (early_unbegun verdicts plan older fit r.0 (ap is_early idle))
-after_step verdicts plan older (steps.Begin r) fit fits j = begun_request verdicts plan older r j (first_queued older r.0 fits.1)
-after_step verdicts plan older (steps.Complete r) fit fits j = completed_request verdicts plan older r j (running_runs older r.0 fits)
-after_step verdicts plan older (steps.Cancel r) fit fits j = cancelled_request verdicts plan older r j (cancelled_queued verdicts plan older r.0 fits)
+after_step verdicts plan older (steps.Begin r) fit fits j = begun_request verdicts plan older r j (first_queued older r.0 fits.1.1)
+after_step verdicts plan older (steps.Complete r) fit fits j = completed_request verdicts plan older r j (running_runs older r.0 fits.1)
+after_step verdicts plan older (steps.Cancel r) fit fits j = cancelled_request verdicts plan older r j (cancelled_queued verdicts plan older r.0 fits.0)
 after_step verdicts plan older steps.StreamOff fit fits j = off_request verdicts plan older j
-after_step verdicts plan older (steps.Reinit r) fit fits j = renewed_request verdicts plan older r j (renewed_there verdicts plan older r.0 fits)
+after_step verdicts plan older (steps.Reinit r) fit fits j = renewed_request verdicts plan older r j (renewed_there verdicts plan older r.0 fits.0)
 after_step verdicts plan older (steps.Free r) fit fits j = freed_request verdicts plan older r j
 after_step verdicts plan older step fit fits j = same_fields verdicts plan older step j (λ s. rw (asked_same plan older j) refl)
 

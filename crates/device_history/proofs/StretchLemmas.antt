@@ -111,7 +111,7 @@ next_row verdicts plan e older i row fit fits on stood = by e.step refl fits on 
 
     begun : (r : RequestId) → e.step ≡ steps.Begin r → FitsFrames verdicts plan older (steps.Begin r) → slice_get (forecast verdicts plan older) (suc i) ≡ Some row → slice_get (forecast verdicts plan (e ∷ older)) i ≡ Some row
     begun r is fits_it stood =
-        let first = first_waits (queue older) r.0 fits_it.1 in
+        let first = first_waits (queue older) r.0 fits_it.1.1 in
         let frames : queued_frames plan older ≡ queued_frame plan older r.0 ∷ map (queued_frame plan older) first.0 = ap (map (queued_frame plan older)) first.1 in
         ap (λ (rows : List Forecast). slice_get rows i)
         (forecast_of verdicts plan (ranges_now plan (e ∷ older)) (ranges_now plan older) (grabbed plan (e ∷ older)) (grabbed plan older) (now verdicts plan (e ∷ older)) (overlay verdicts plan (ranges_now plan older) (now verdicts plan older) (grabbed plan older) (asked plan older r.0)) (queued_frames plan (e ∷ older)) (map (queued_frame plan older) first.0)
@@ -174,7 +174,7 @@ rows_queued verdicts plan older = rows_named verdicts plan (ranges_now plan olde
 pub begun_row : (verdicts : Verdicts) (plan : PlanData) (older : Past) (r : RequestId) (row : Forecast) → FitsFrames verdicts plan older (steps.Begin r) → slice_get (forecast verdicts plan older) 0 ≡ Some row
     → row ≡ forecast_over verdicts plan (ranges_now plan older) (now verdicts plan older) (grabbed plan older) (queued_frame plan older r.0)
 begun_row verdicts plan older r row fit stood =
-    let first = first_waits (queue older) r.0 fit.1 in
+    let first = first_waits (queue older) r.0 fit.1.1 in
     same row _ (sym stood ∙ ap (λ (rows : List Forecast). slice_get rows 0) (first_row verdicts plan older r.0 first.0 first.1))
   where
     same : (a b : Forecast) → Some a ≡ Some b → a ≡ b
@@ -222,12 +222,12 @@ begin_replies verdicts plan older r fit may =
     fit_it = fits verdicts plan older (steps.Begin r) may
 
     found : find (requests verdicts plan older) r.0 ≡ Some (request_in verdicts plan older r.0 states.Queued)
-    found = find_request verdicts plan older r.0 fit ∙ request_some verdicts plan older r.0 states.Queued (first_queued older r.0 fit_it.1)
+    found = find_request verdicts plan older r.0 fit ∙ request_some verdicts plan older r.0 states.Queued (first_queued older r.0 fit_it.1.1)
 
     first : next_frame (frames verdicts plan older) ≡ Ok (r.0, unwrap_or (buffer older r.0) 0)
     first =
-        let front = first_waits (queue older) r.0 fit_it.1 in
-        ap (λ (o : Option ℕ). next_frame (record (frames verdicts plan older) { running = o })) fit_it.0 ∙ ap (first_waiting (requests verdicts plan older)) front.1 ∙ ap (λ (o : Option RequestData). Ok (r.0, buffer_number o)) found
+        let front = first_waits (queue older) r.0 fit_it.1.1 in
+        ap (λ (o : Option ℕ). next_frame (record (frames verdicts plan older) { running = o })) fit_it.1.0 ∙ ap (first_waiting (requests verdicts plan older)) front.1 ∙ ap (λ (o : Option RequestData). Ok (r.0, buffer_number o)) found
 
     answered : begin_frame_answer verdicts plan older ≡ stepped None older (replies.Frame r (unwrap_or (buffer older r.0) 0) (begun_refused verdicts plan older r.0))
     answered = ap (λ (found : Result (ℕ × ℕ) Check). stepped_with (frame_reply verdicts plan older) found older) first

@@ -7,21 +7,20 @@ use Rattle.ctrl_types.specs.Refusals.{whole}
 use Rattle.ctrl_types.specs.declared.check.Check.{Check}
 use Rattle.ctrl_types.specs.declared.errno.Fault.{Fault}
 use Rattle.ctrl_types.specs.declared.refusal.Refusal.{Refusal}
-use Rattle.req_book.specs.Refusals.{alloc_check, buffer_check, queue_check, clear_check}
-use Rattle.frame_queue.specs.Frames.{begin_check, complete_check, cancel_check}
+use Rattle.frame_queue.specs.Frames.{begin_check, complete_check}
 use Rattle.ctrl_calls.specs.Meanings.{Verdicts}
 use Rattle.ctrl_handlers.specs.Plan.{PlanData}
 use Rattle.ctrl_lists.specs.Checks.{first_refusal}
 use Rattle.device_history.specs.declared.ask.Ask.{Ask}
 use Rattle.device_history.specs.declared.ask.Ask.TheVariants as asks
 use Rattle.device_history.specs.declared.ask.Reply.{Reply}
+use Rattle.device_history.specs.declared.ask.Step.TheVariants as steps
 use Rattle.device_history.specs.Steps.{Past}
 use Rattle.device_history.specs.Lists.{get_checks, set_checks, try_checks}
 use Rattle.device_history.specs.Refusals.{Answer, step_check}
-use Rattle.device_history.specs.Handles.{open_check, through}
-use Rattle.device_history.specs.Grabs.{grab_check}
-use Rattle.device_history.specs.Ranges.{range_check}
-use Rattle.device_history.specs.Snapshots.{request, requests, frames}
+use Rattle.device_history.specs.Handles.{through}
+use Rattle.device_history.specs.Snapshots.{frames}
+use Rattle.device_history.specs.StepChecks.{step_refusal}
 use Rattle.device_history.specs.RequestAnswers.{state_found}
 use Rattle.device_history.specs.EventAnswers.{subscribe_check, first_event}
 use Rattle.device_history.specs.Forecasts.{forecast_at}
@@ -31,19 +30,19 @@ use Rattle.device_history.specs.Queries.{control_shown, id_behind, item_found, w
 -- further step is kept. Of a list it tells none, refused or not: its checks, with the entry where each refuses, stand in specs/Lists. The words that were told don't
 -- matter.
 abbrev pub check_of : Verdicts → PlanData → Past → Ask → Option Check
-check_of verdicts plan past (asks.OpenFh handler) = step_check past (open_check plan past handler)
-check_of verdicts plan past (asks.CloseFh fh) = step_check past (through past fh None)
-check_of verdicts plan past (asks.Grab c on) = step_check past (grab_check plan c)
-check_of verdicts plan past (asks.ModifyRange c low high apart default_value) = step_check past (range_check plan past c low high apart default_value)
-check_of verdicts plan past asks.Alloc = step_check past (alloc_check (requests verdicts plan past))
-check_of verdicts plan past (asks.AddBuffer r number) = step_check past (buffer_check (requests verdicts plan past) number (request verdicts plan past r.0))
-check_of verdicts plan past (asks.Queue r) = step_check past (queue_check (request verdicts plan past r.0))
+check_of verdicts plan past (asks.OpenFh handler) = step_check past (step_refusal verdicts plan past (steps.OpenFh handler))
+check_of verdicts plan past (asks.CloseFh fh) = step_check past (step_refusal verdicts plan past (steps.CloseFh fh))
+check_of verdicts plan past (asks.Grab c on) = step_check past (step_refusal verdicts plan past (steps.Grab c on))
+check_of verdicts plan past (asks.ModifyRange c low high apart default_value) = step_check past (step_refusal verdicts plan past (steps.ModifyRange c low high apart default_value))
+check_of verdicts plan past asks.Alloc = step_check past (step_refusal verdicts plan past steps.Alloc)
+check_of verdicts plan past (asks.AddBuffer r number) = step_check past (step_refusal verdicts plan past (steps.Buffer r number))
+check_of verdicts plan past (asks.Queue r) = step_check past (step_refusal verdicts plan past (steps.Queue r))
 check_of verdicts plan past asks.Begin = step_check past (begin_check (frames verdicts plan past))
 check_of verdicts plan past asks.Complete = step_check past (complete_check (frames verdicts plan past))
-check_of verdicts plan past (asks.Cancel r) = step_check past (cancel_check (request verdicts plan past r.0))
-check_of verdicts plan past asks.StreamOff = step_check past None
-check_of verdicts plan past (asks.Reinit r) = step_check past (clear_check (request verdicts plan past r.0))
-check_of verdicts plan past (asks.Free r) = step_check past (clear_check (request verdicts plan past r.0))
+check_of verdicts plan past (asks.Cancel r) = step_check past (step_refusal verdicts plan past (steps.Cancel r))
+check_of verdicts plan past asks.StreamOff = step_check past (step_refusal verdicts plan past steps.StreamOff)
+check_of verdicts plan past (asks.Reinit r) = step_check past (step_refusal verdicts plan past (steps.Reinit r))
+check_of verdicts plan past (asks.Free r) = step_check past (step_refusal verdicts plan past (steps.Free r))
 check_of verdicts plan past (asks.StateOf r) = result_err (state_found past r)
 check_of verdicts plan past (asks.Forecast place) = result_err (forecast_at verdicts plan past place)
 check_of verdicts plan past (asks.Subscribe fh id flags) = step_check past (subscribe_check plan past fh id)

@@ -5,16 +5,16 @@ use Rattle.std.specs.Option.{option_map}
 use Rattle.ctrl_types.specs.declared.ids.Pair.{Pair}
 use Rattle.ctrl_clusters.specs.Rows.{Values}
 use Rattle.req_book.specs.Requests.{RequestData, new_request, with_changed, with_pairs, with_buffer, cleared, queued, begun, completed, without}
-use Rattle.req_book.specs.Refusals.{store_check, buffer_check, queue_check, clear_check}
-use Rattle.frame_queue.specs.Frames.{FramesData, with_requests, queued_last, after_begin, after_complete, cancelled, cancel_check, ended_request, after_off}
+use Rattle.frame_queue.specs.Frames.{FramesData, with_requests, queued_last, after_begin, after_complete, cancelled, ended_request, after_off}
 use Rattle.ctrl_calls.specs.Meanings.{Verdicts}
 use Rattle.ctrl_handlers.specs.Plan.{PlanData}
 use Rattle.device_history.specs.declared.ask.Step.{Step}
 use Rattle.device_history.specs.declared.ask.Step.TheVariants as steps
 use Rattle.device_history.specs.Steps.{Past}
-use Rattle.device_history.specs.Frames.{queue, running, first_of}
+use Rattle.device_history.specs.Frames.{queue, running}
 use Rattle.device_history.specs.Values.{now}
 use Rattle.device_history.specs.Snapshots.{request, requests, begun_pairs}
+use Rattle.device_history.specs.StepChecks.{request_refusal, HasItsTurn}
 
 -- what a step makes of the requests and the queue, at these present values; `applied` is what a begin applies, and `n` the number of the step
 abbrev pub frames_changed : Values → List Pair → ℕ → Step → FramesData → FramesData
@@ -39,18 +39,9 @@ applied_by_step verdicts plan older _ = []
 abbrev pub frames_after : Verdicts → PlanData → Past → ℕ → Step → FramesData → FramesData
 frames_after verdicts plan older n step f = frames_changed (now verdicts plan older) (applied_by_step verdicts plan older step) n step f
 
--- What a step about requests that may follow a history finds: its request doesn't refuse it, and a begin and an end are of the request whose
--- turn it is.
+-- What a step about requests that may follow a history finds: the requests don't refuse it, and it has its turn.
 abbrev pub FitsFrames : Verdicts → PlanData → Past → Step → Type 0
-FitsFrames verdicts plan older (steps.Store r pairs) = store_check (request verdicts plan older r.0) ≡ None
-FitsFrames verdicts plan older (steps.Buffer r number) = buffer_check (requests verdicts plan older) number (request verdicts plan older r.0) ≡ None
-FitsFrames verdicts plan older (steps.Queue r) = queue_check (request verdicts plan older r.0) ≡ None
-FitsFrames verdicts plan older (steps.Begin r) = (running older ≡ None) × (first_of (queue older) ≡ Some r.0)
-FitsFrames verdicts plan older (steps.Complete r) = running older ≡ Some r.0
-FitsFrames verdicts plan older (steps.Cancel r) = cancel_check (request verdicts plan older r.0) ≡ None
-FitsFrames verdicts plan older (steps.Reinit r) = clear_check (request verdicts plan older r.0) ≡ None
-FitsFrames verdicts plan older (steps.Free r) = clear_check (request verdicts plan older r.0) ≡ None
-FitsFrames verdicts plan older _ = Unit {0}
+FitsFrames verdicts plan older step = (request_refusal (requests verdicts plan older) (request verdicts plan older) step ≡ None) × HasItsTurn (queue older) (running older) step
 
 -- a change of the request with an id
 abbrev pub changed_if_named : ℕ → ℕ → (RequestData → RequestData) → Option RequestData → Option RequestData

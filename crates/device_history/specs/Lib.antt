@@ -49,8 +49,9 @@ pub mod Subscriptions
 pub mod Events
 pub mod Lists
 pub mod RequestAnswers
-pub mod FrameSteps
 pub mod EventAnswers
+pub mod StepChecks
+pub mod FrameSteps
 pub mod EventSteps
 pub mod Forecasts
 pub mod Queries
