@@ -124,7 +124,7 @@ makes_set verdicts plan of number from pairs old new before after h is f own was
 pub asked_made : (verdicts : Verdicts) (plan : PlanData) (steps : History) (kept : FramesData) (r : RequestId) → kept ≡ frames verdicts plan (past steps) → IsLegal verdicts plan (past steps) → MayFollow verdicts plan (past steps) (kinds.Begin r)
     → pairs_in (find kept.requests.all r.0) ≡ asked plan (past steps) r.0
 unfolding request
-asked_made verdicts plan steps kept r own legal may = ap pairs_in (found verdicts plan steps kept r.0 own legal) ∙ by (state (past steps) r.0) (ap is_some (first_queued (past steps) r.0 (fits verdicts plan (past steps) (kinds.Begin r) may).1))
+asked_made verdicts plan steps kept r own legal may = ap pairs_in (found verdicts plan steps kept r.0 own legal) ∙ by (state (past steps) r.0) (ap is_some (first_queued (past steps) r.0 (fits verdicts plan (past steps) (kinds.Begin r) may).1.1))
   where
     by : (o : Option RequestState) → is_some o ≡ true → pairs_in (option_map (request_in verdicts plan (past steps) r.0) o) ≡ asked plan (past steps) r.0
     by None h = cc

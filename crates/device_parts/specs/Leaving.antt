@@ -1,12 +1,12 @@
 -- Steps that leave file handles, grabs, ranges and values: those about requests but for the begin of a frame, and those about events; and what they need
 -- of what they change (of this project).
-use Rattle.std.specs.Prelude.{◌≡◌, ◌<◌, ℕ, Bool, true, false, None, Some}
+use Rattle.std.specs.Prelude.{◌≡◌, ◌<◌, ℕ, Bool, true, false, List, None}
 use Rattle.std.specs.List.{All}
-use Rattle.req_book.specs.Requests.{find}
-use Rattle.req_book.specs.Refusals.{alloc_check, store_check, buffer_check, queue_check, clear_check}
-use Rattle.frame_queue.specs.Frames.{FramesData, cancel_check}
+use Rattle.req_book.specs.Requests.{RequestData, find}
+use Rattle.frame_queue.specs.Frames.{FramesData}
 use Rattle.device_history.specs.declared.ask.Step.{Step}
 use Rattle.device_history.specs.declared.ask.Step.TheVariants as steps
+use Rattle.device_history.specs.StepChecks.{HasItsTurn, request_refusal}
 
 -- a step that leaves file handles, grabs, ranges and values
 abbrev pub leaves_controls : Step → Bool
@@ -24,19 +24,14 @@ NamesKnown controls (steps.Store r pairs) = All (λ p. p.control < controls) pai
 NamesKnown controls (steps.Subscribe fh c flags) = c < controls
 NamesKnown controls _ = Unit {0}
 
--- What lets such a step change requests and a queue: nothing refuses it; the number of an allocation is new, what is stored names controls that
--- are there, and a frame that is ended is the one that is being made.
+-- the number of a step that makes a request is new among the requests
+abbrev pub IsNew : ℕ → Step → List RequestData → Type 0
+IsNew n steps.Alloc all = find all n ≡ None
+IsNew n _ all = Unit {0}
+
+-- What lets such a step, with this number, change requests and a queue: a request that it makes is new, the controls that it names are there, the requests don't refuse
+-- it, and it has its turn.
 abbrev pub FitsIn : ℕ → Step → FramesData → Type 0
-FitsIn n steps.Alloc f = (find f.requests.all n ≡ None) × (alloc_check f.requests.all ≡ None)
-FitsIn n (steps.Store r pairs) f = All (λ p. p.control < f.requests.controls) pairs × (store_check (find f.requests.all r.0) ≡ None)
-FitsIn n (steps.Buffer r number) f = buffer_check f.requests.all number (find f.requests.all r.0) ≡ None
-FitsIn n (steps.Queue r) f = queue_check (find f.requests.all r.0) ≡ None
-FitsIn n (steps.Complete r) f = f.running ≡ Some r.0
-FitsIn n (steps.Cancel r) f = cancel_check (find f.requests.all r.0) ≡ None
-FitsIn n steps.StreamOff f = Unit {0}
-FitsIn n (steps.Reinit r) f = clear_check (find f.requests.all r.0) ≡ None
-FitsIn n (steps.Free r) f = clear_check (find f.requests.all r.0) ≡ None
-FitsIn n (steps.Subscribe fh c flags) f = Unit {0}
-FitsIn n (steps.Unsubscribe fh c) f = Unit {0}
-FitsIn n (steps.Take fh c) f = Unit {0}
-FitsIn n _ f = ⊥
+FitsIn n step f =
+    (leaves_controls step ≡ true) × IsNew n step f.requests.all × NamesKnown f.requests.controls step
+    × (request_refusal f.requests.all (find f.requests.all) step ≡ None) × HasItsTurn f.queue f.running step
