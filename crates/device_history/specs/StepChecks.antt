@@ -1,5 +1,4 @@
--- Which check refuses a step, and whose turn a frame's step is (of this project; the order of checks, buffers, begins and cancellations, too; that a request refuses a
--- step which finds it in another state: Linux userspace API, "Request API").
+-- Which check refuses a step, and whose turn a frame's step is (Linux userspace API, "Request API"; order, buffers, begins and cancelling of this project).
 use Rattle.std.specs.Prelude.{◌≡◌, ℕ, List, Option, None, Some}
 use Rattle.std.specs.Result.{result_err}
 use Rattle.ctrl_types.specs.declared.check.Check.{Check}

@@ -56,13 +56,13 @@ begin-requires-clause-ready g c = replay_ready g.D.Validates.verdict c.self.insi
 pub begin-requires-clause-free : goal.begin-requires-clause-free
 begin-requires-clause-free g c =
     let r = c.self.inside in
-    ap (λ (f : FramesData). f.running) c.self.invariant.made.frames ∙ (fits g.D.Validates.verdict r.plan.now (past (take r.count r.steps.now)) (steps.Begin c.args.request) (rw (← c.self.view_is) at c.requires.follows)).0
+    ap (λ (f : FramesData). f.running) c.self.invariant.made.frames ∙ (fits g.D.Validates.verdict r.plan.now (past (take r.count r.steps.now)) (steps.Begin c.args.request) (rw (← c.self.view_is) at c.requires.follows)).1.0
 
 pub begin-requires-clause-first : goal.begin-requires-clause-first
 begin-requires-clause-first g c =
     let r = c.self.inside in
     let fit = fits g.D.Validates.verdict r.plan.now (past (take r.count r.steps.now)) (steps.Begin c.args.request) (rw (← c.self.view_is) at c.requires.follows) in
-    ap (λ (f : FramesData). slice_get f.queue 0) c.self.invariant.made.frames ∙ at_first (queue (past (take r.count r.steps.now))) c.args.request.0 fit.1
+    ap (λ (f : FramesData). slice_get f.queue 0) c.self.invariant.made.frames ∙ at_first (queue (past (take r.count r.steps.now))) c.args.request.0 fit.1.1
   where
     at_first : (ids : List ℕ) (n : ℕ) → first_of ids ≡ Some n → slice_get ids 0 ≡ Some n
     at_first [] n h = cc
