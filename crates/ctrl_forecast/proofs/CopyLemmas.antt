@@ -6,13 +6,11 @@ use Rattle.ctrl_types.specs.Values.{is_same}
 use Rattle.ctrl_types.specs.declared.errno.Errno.{Errno}
 use Rattle.ctrl_types.specs.declared.ids.Pair.{Pair}
 use Rattle.ctrl_types.specs.declared.value.CtrlValue.{CtrlValue}
-use Rattle.ctrl_calls.specs.declared.work.Work.{Work}
 use Rattle.ctrl_handlers.specs.Plan.{PlanData, IsPlan, members}
 use Rattle.ctrl_clusters.specs.Rows.{Values, value_at, row_of}
-use Rattle.ctrl_clusters.specs.Judging.{with_call}
+use Rattle.ctrl_clusters.specs.Overlay.{is_touched}
 use Rattle.ctrl_clusters.specs.NewRows.{with_row}
 use Rattle.ctrl_clusters.proofs.NewRowLemmas.{written_one}
-use Rattle.ctrl_forecast.specs.Asking.{asks_row}
 use Rattle.ctrl_forecast.specs.Frames.{AreKeptFrames, FrameData, Setting, base_at, frame_at, no_frame, renewed_at, row_or, row_result, values_before, with_or_without, with_row_result}
 use Rattle.ctrl_forecast.specs.Unchanged.{are_same_values, is_same_outcome}
 use Rattle.ctrl_forecast.proofs.RenewLemmas.{marked_room}
@@ -113,13 +111,10 @@ kept_at s fs k p base asked row settled is out fails =
     outcome_at s fs k p base asked (Ok (row_of (base_at s fs p) (members s.plan k))) is
     (out ∙ ap (λ (t : Bool). Ok (cond t row (row_of base (members s.plan k)))) fails ∙ ap (λ (v : Values). Ok (row_of v (members s.plan k))) is.based)
 
--- a validator is asked as it is at the place
-pub counted_at : (s : Setting) (fs : List FrameData) (k p : ℕ) (base : Values) (asked : List Pair) (old new : Work) → IsReadAt s fs p base asked
-    → new ≡ record old { asked = with_call (asks_row s.plan s.controls base s.grabs asked k) old.asked }
-    → new ≡ record old { asked = with_call (asks_row s.plan s.controls (base_at s fs p) s.grabs (frame_at fs p).asked k) old.asked }
-counted_at s fs k p base asked old new is counts =
-    counts ∙ ap (λ (v : Values). record old { asked = with_call (asks_row s.plan s.controls v s.grabs asked k) old.asked }) is.based
-    ∙ ap (λ (pairs : List Pair). record old { asked = with_call (asks_row s.plan s.controls (base_at s fs p) s.grabs pairs k) old.asked }) is.asks
+-- a validator is asked only where they name the cluster
+pub asked_at_most : (s : Setting) (fs : List FrameData) (k p : ℕ) (base : Values) (asked : List Pair) (old new : ℕ) → IsReadAt s fs p base asked
+    → new ≤ old + cond (is_touched asked (members s.plan k)) 1 0 → new ≤ old + cond (is_touched (frame_at fs p).asked (members s.plan k)) 1 0
+asked_at_most s fs k p base asked old new is most = omega (arith, most, ap {B = ℕ} (λ (pairs : List Pair). cond (is_touched pairs (members s.plan k)) 1 0) is.asks)
 
 -- there is room among the refused ones then
 pub room_at : (s : Setting) (fs : List FrameData) (k p : ℕ) (r : Result (List CtrlValue) Errno) → AreKeptFrames s.plan fs → k < length s.plan.clusters → p < length fs

@@ -1,31 +1,23 @@
 -- Clusters are renewed one after another, each up to the first frame that comes out as it was.
-use Rattle.std.proofs.Common.{◌≡◌, ◌≢◌, ◌∙◌, ◌<◌, ◌≤◌, ◌+◌, ◌-◌, ◌==◌, ◌⊎◌, ◌||◌, ◌++◌, ℕ, zero, suc, nat_eq, Bool, true, false, cond, List, [], ◌∷◌, length, map, take, drop, get_or, count_by, inl, inr, refl, sym, ap, subst, arith}
+use Rattle.std.proofs.Common.{◌≡◌, ◌≢◌, ◌∙◌, ◌<◌, ◌≤◌, ◌+◌, ◌==◌, ◌⊎◌, ◌||◌, ◌++◌, ℕ, zero, suc, nat_eq, Bool, true, false, List, [], ◌∷◌, length, map, inl, inr, refl, sym, ap, subst, arith}
 use Rattle.std.specs.List.{list_any, remove}
 use Rattle.std.proofs.lemmas.Bool.{cases_Bool, cases_lt}
 use Rattle.std.proofs.lemmas.Bool.Decides.{eqb_tells}
-use Rattle.std.proofs.lemmas.List.{append-nil, append_assoc, length-map, map-append, take-map, drop-map, take_more, take_all, get_or-map}
+use Rattle.std.proofs.lemmas.List.{length-map}
 use Rattle.std.proofs.lemmas.List.Edits.{length-remove, get_or-remove_above}
 use Rattle.std.proofs.lemmas.List.Folds.{list_any-append}
-use Rattle.ctrl_types.specs.declared.value.CtrlValue.{CtrlValue}
 use Rattle.ctrl_calls.specs.Meanings.{Verdicts}
 use Rattle.ctrl_settle.specs.Control.{Control}
 use Rattle.ctrl_handlers.specs.Plan.{PlanData, IsPlan, IsFinished, members}
 use Rattle.ctrl_clusters.specs.Rows.{Values, row_of, Grabs}
-use Rattle.ctrl_clusters.specs.Judging.{with_calls}
-use Rattle.ctrl_clusters.proofs.CallLemmas.{calls_more}
-use Rattle.ctrl_forecast.specs.declared.board.Forecast.{Forecast}
 use Rattle.ctrl_forecast.specs.Forecasts.{QueuedData, forecasts}
 use Rattle.ctrl_forecast.specs.Boards.{BoardData, DifferOnlyIn, ValuesDifferOnlyIn, asked_at, board_of}
-use Rattle.ctrl_forecast.specs.Asking.{row_at, asks_at, comes_out_at, asked_up_to, had_at_turn, asked_in_turn, renewing_until_same}
-use Rattle.ctrl_forecast.specs.Unchanged.{is_same_outcome, comes_out_same}
 use Rattle.ctrl_forecast.specs.Frames.{FrameData, no_frame, frame_at, queued_of, forecast_of, board_seen, Setting, setting, values_before, AreKeptFrames, IsRightAt, AreReady, AreReadyAt, IsAlikeIn, AreRenewed, IsClusterRenewed}
 use Rattle.ctrl_forecast.proofs.RightLemmas.{right_moves}
 use Rattle.ctrl_forecast.proofs.RenewLemmas.{ranges_agree, grabs_agree}
 use Rattle.ctrl_forecast.proofs.AskingLemmas.{kept_asked}
 use Rattle.ctrl_forecast.proofs.KeptLemmas.{rows_right, ready_kept}
 use Rattle.ctrl_forecast.proofs.ReadyLemmas.{ready_changed, ready_removed}
-use Rattle.ctrl_forecast.proofs.UnchangedLemmas.{up_to_alike}
-use Rattle.ctrl_forecast.proofs.WalkLemmas.{now_at, right_now}
 
 -- frames that are queued alike are as many
 as_many : (old new : List FrameData) → map queued_of new ≡ map queued_of old → length new ≡ length old
@@ -110,94 +102,6 @@ turns_kept s place clusters old fs done many ready all =
     right k i lt less (inl among) = all.right k i lt among less
     right k i lt less (inr apart) = alike_right s k i old fs all.queued (all.stay k lt apart) less (ready.apart k i lt apart (omega (arith, less, as_many old fs all.queued)))
 
--- rows of which a cluster has the same, and refused alike, come out alike
-outcome_of : (plan : PlanData) (k : ℕ) (a b later : Forecast) → row_of a.values (members plan k) ≡ row_of b.values (members plan k) → list_any (nat_eq k) a.refused ≡ list_any (nat_eq k) b.refused
-    → comes_out_same plan k a later ≡ comes_out_same plan k b later
-outcome_of plan k a b later rows marks =
-    ap (λ (r : List CtrlValue). is_same_outcome r (list_any (nat_eq k) a.refused) (row_of later.values (members plan k)) (list_any (nat_eq k) later.refused)) rows
-    ∙ ap (λ (m : Bool). is_same_outcome (row_of b.values (members plan k)) m (row_of later.values (members plan k)) (list_any (nat_eq k) later.refused)) marks
-
--- When a cluster's turn comes, it is asked for as often as where what is compared is what the frames have by then.
-pub turn_count : (s : Setting) (from k : ℕ) (done : List ℕ) (old fs : List FrameData) → IsPlan s.plan → length s.values ≡ length s.plan.controls → k < length s.plan.clusters → AreRenewed s done old fs
-    → asked_up_to s.verdicts s.plan s.controls s.values s.grabs (map queued_of fs) (map forecast_of fs) from k
-    ≡ asked_up_to s.verdicts s.plan s.controls s.values s.grabs (map queued_of old) (had_at_turn s.verdicts s.plan s.controls s.values s.grabs (map queued_of old) (map forecast_of old) done k) from k
-turn_count s from k done old fs is many lt so_far =
-    ap (λ (qs : List QueuedData). asked_up_to s.verdicts s.plan s.controls s.values s.grabs qs (map forecast_of fs) from k) so_far.queued
-    ∙ ap (count_by (asks_at s.verdicts s.plan s.controls s.values s.grabs qs k))
-    (up_to_alike (comes_out_at s.verdicts s.plan s.controls s.values s.grabs qs (map forecast_of fs) k)
-    (comes_out_at s.verdicts s.plan s.controls s.values s.grabs qs (had_at_turn s.verdicts s.plan s.controls s.values s.grabs qs (map forecast_of old) done k) k) from (length qs - from)
-    (λ i first below. by i (omega (arith, below, long)) (list_any (nat_eq k) done) refl))
-  where
-    qs : List QueuedData
-    qs = map queued_of old
-
-    long : length qs ≡ length fs
-    long = length-map old queued_of ∙ sym (as_many old fs so_far.queued)
-
-    now : ℕ → Forecast
-    now i = now_at s qs i
-
-    has : (i : ℕ) → i < length fs → row_at (map forecast_of fs) i ≡ forecast_of (frame_at fs i)
-    has i less = get_or-map forecast_of fs i no_frame (forecast_of no_frame) less
-
-    had : (i : ℕ) → i < length fs → row_at (map forecast_of old) i ≡ forecast_of (frame_at old i)
-    had i less = get_or-map forecast_of old i no_frame (forecast_of no_frame) (omega (arith, less, as_many old fs so_far.queued))
-
-    by : (i : ℕ) → i < length fs → (b : Bool) → list_any (nat_eq k) done ≡ b
-        → comes_out_same s.plan k (row_at (map forecast_of fs) i) (now i) ≡ comes_out_same s.plan k (row_at (cond b (forecasts s.verdicts s.plan s.controls s.values s.grabs qs) (map forecast_of old)) i) (now i)
-    by i less true among =
-        let right = right_now s fs k i is many lt less (λ j within. so_far.right k j lt among within) in
-        ap (λ (f : Forecast). comes_out_same s.plan k f (now i)) (has i less)
-        ∙ outcome_of s.plan k (forecast_of (frame_at fs i)) (now i) (now i) (right.0 ∙ ap (λ (l : List QueuedData). row_of (now_at s l i).values (members s.plan k)) so_far.queued)
-        (right.1 ∙ ap (λ (l : List QueuedData). list_any (nat_eq k) (now_at s l i).refused) so_far.queued)
-    by i less false apart =
-        let alike : IsAlikeIn s.plan k old fs = so_far.stay k lt apart in
-        ap (λ (f : Forecast). comes_out_same s.plan k f (now i)) (has i less)
-        ∙ outcome_of s.plan k (forecast_of (frame_at fs i)) (forecast_of (frame_at old i)) (now i) (alike.rows i) (alike.refused i)
-        ∙ ap (λ (f : Forecast). comes_out_same s.plan k f (now i)) (sym (had i less))
-
--- one turn more
-turn_more : (verdicts : Verdicts) (plan : PlanData) (controls : List Control) (values : Values) (grabs : Grabs) (qs : List QueuedData) (had : List Forecast) (from k : ℕ) (done ks : List ℕ)
-    → asked_in_turn verdicts plan controls values grabs qs had from done (ks ++ k ∷ [])
-    ≡ asked_in_turn verdicts plan controls values grabs qs had from done ks + asked_up_to verdicts plan controls values grabs qs (had_at_turn verdicts plan controls values grabs qs had (done ++ ks) k) from k
-turn_more verdicts plan controls values grabs qs had from k done [] =
-    ap (λ (l : List ℕ). asked_up_to verdicts plan controls values grabs qs (had_at_turn verdicts plan controls values grabs qs had l k) from k + 0) (sym (append-nil done)) ∙ omega arith
-turn_more verdicts plan controls values grabs qs had from k done (j ∷ ks) =
-    let own : ℕ = asked_up_to verdicts plan controls values grabs qs (had_at_turn verdicts plan controls values grabs qs had done j) from j in
-    ap (λ (n : ℕ). own + n) (turn_more verdicts plan controls values grabs qs had from k (done ++ j ∷ []) ks
-    ∙ ap (λ (l : List ℕ). asked_in_turn verdicts plan controls values grabs qs had from (done ++ j ∷ []) ks + asked_up_to verdicts plan controls values grabs qs (had_at_turn verdicts plan controls values grabs qs had l k) from k)
-    (append_assoc done (j ∷ []) ks))
-    ∙ omega arith
-
--- one cluster more has had its turn
-pub turns_count : (s : Setting) (from i count asked new : ℕ) (clusters : List ℕ) (old fs : List FrameData) → IsPlan s.plan → length s.values ≡ length s.plan.controls → i < length clusters
-    → get_or clusters i 0 < length s.plan.clusters → AreRenewed s (take i clusters) old fs
-    → asked ≡ with_calls (asked_in_turn s.verdicts s.plan s.controls s.values s.grabs (map queued_of old) (map forecast_of old) from [] (take i clusters)) count
-    → new ≡ with_calls (asked_up_to s.verdicts s.plan s.controls s.values s.grabs (map queued_of fs) (map forecast_of fs) from (get_or clusters i 0)) asked
-    → new ≡ with_calls (asked_in_turn s.verdicts s.plan s.controls s.values s.grabs (map queued_of old) (map forecast_of old) from [] (take (i + 1) clusters)) count
-turns_count s from i count asked new clusters old fs is many less lt so_far before made =
-    made ∙ ap (with_calls own) before ∙ calls_more (turns (take i clusters)) own count
-    ∙ ap (λ (n : ℕ). with_calls n count)
-    (ap (λ (n : ℕ). turns (take i clusters) + n) (turn_count s from k (take i clusters) old fs is many lt so_far)
-    ∙ sym (turn_more s.verdicts s.plan s.controls s.values s.grabs (map queued_of old) (map forecast_of old) from k [] (take i clusters)) ∙ ap turns (sym (take_more clusters i 0 less)))
-  where
-    k : ℕ
-    k = get_or clusters i 0
-
-    own : ℕ
-    own = asked_up_to s.verdicts s.plan s.controls s.values s.grabs (map queued_of fs) (map forecast_of fs) from k
-
-    turns : List ℕ → ℕ
-    turns ks = asked_in_turn s.verdicts s.plan s.controls s.values s.grabs (map queued_of old) (map forecast_of old) from [] ks
-
--- and all have
-pub turns_end : (s : Setting) (from i count asked : ℕ) (clusters : List ℕ) (qs : List QueuedData) (had : List Forecast) → length clusters ≤ i
-    → asked ≡ with_calls (asked_in_turn s.verdicts s.plan s.controls s.values s.grabs qs had from [] (take i clusters)) count
-    → asked ≡ with_calls (renewing_until_same s.verdicts s.plan s.controls s.values s.grabs qs had from clusters) count
-unfolding renewing_until_same
-turns_end s from i count asked clusters qs had all is =
-    is ∙ ap (λ (l : List ℕ). with_calls (asked_in_turn s.verdicts s.plan s.controls s.values s.grabs qs had from [] l) count) (take_all i clusters all)
-
 -- kept frames, where the values before them were changed in some clusters
 pub ready_values : (verdicts : Verdicts) (plan : PlanData) (controls : List Control) (grabs : Grabs) (before values : Values) (clusters : List ℕ) (fs : List FrameData) → IsPlan plan → length values ≡ length plan.controls
     → ValuesDifferOnlyIn plan clusters before values → board_seen fs ≡ board_of verdicts plan controls before grabs (map queued_of fs) → AreReadyAt (setting verdicts plan controls values grabs) 0 clusters fs
@@ -221,10 +125,6 @@ ready_values verdicts plan controls grabs before values clusters fs is many diff
     right k (suc i) lt other less =
         let was : IsRightAt (setting verdicts plan controls before grabs) fs k (suc i) = rows_right verdicts plan controls grabs before fs is (differ.many ∙ many) rows k (suc i) lt less in
         record { row = was.row; refused = was.refused }
-
--- frames without one have what they had, without it
-pub removed_rows : (fs : List FrameData) (p : ℕ) → map forecast_of (remove fs p) ≡ remove (map forecast_of fs) p
-removed_rows fs p = map-append forecast_of (take p fs) (drop (suc p) fs) ∙ ap (λ (l : List Forecast). l ++ map forecast_of (drop (suc p) fs)) (sym (take-map forecast_of p fs)) ∙ ap (λ (l : List Forecast). take p (map forecast_of fs) ++ l) (sym (drop-map forecast_of (suc p) fs))
 
 -- kept frames, of which the one at a place is taken out
 pub ready_without : (verdicts : Verdicts) (plan : PlanData) (controls : List Control) (grabs : Grabs) (values : Values) (p : ℕ) (fs : List FrameData) → IsPlan plan → length values ≡ length plan.controls → p < length fs

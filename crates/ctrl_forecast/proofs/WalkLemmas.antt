@@ -1,31 +1,21 @@
 -- A cluster is renewed frame after frame, up to the first that comes out as it was.
-use Rattle.std.proofs.Common.{◌≡◌, ◌≢◌, ◌∙◌, ◌<◌, ◌≤◌, ◌+◌, ◌==◌, ◌⊎◌, ℕ, zero, suc, nat_eq, Bool, true, false, not, cond, List, [], ◌∷◌, length, map, get_or, take, Option, None, Some, unwrap_or, is_err, inl, inr, refl, sym, ap, subst, arith}
+use Rattle.std.proofs.Common.{◌≡◌, ◌≢◌, ◌∙◌, ◌<◌, ◌≤◌, ◌+◌, ◌==◌, ◌⊎◌, ℕ, zero, suc, nat_eq, Bool, true, false, not, cond, List, length, Option, None, Some, unwrap_or, is_err, inl, inr, refl, sym, ap, subst, arith}
 use Rattle.std.specs.List.{list_any}
 use Rattle.std.specs.Option.{option_and_then}
 use Rattle.std.proofs.lemmas.Bool.{cases_lt}
 use Rattle.std.proofs.lemmas.Bool.Decides.{eqb_tells}
-use Rattle.std.proofs.lemmas.List.{length-map, length-set, get_or-map}
-use Rattle.ctrl_types.specs.declared.ids.Pair.{Pair}
+use Rattle.std.proofs.lemmas.List.{length-set}
 use Rattle.ctrl_types.specs.declared.value.CtrlValue.{CtrlValue}
-use Rattle.ctrl_calls.specs.Meanings.{Verdicts}
-use Rattle.ctrl_settle.specs.Control.{Control}
 use Rattle.ctrl_handlers.specs.Plan.{PlanData, IsPlan, cluster_of, members}
-use Rattle.ctrl_clusters.specs.Rows.{Values, value_at, member_value, row_of, Grabs}
-use Rattle.ctrl_clusters.specs.Overlay.{overlay}
+use Rattle.ctrl_clusters.specs.Rows.{Values, value_at, member_value, row_of}
 use Rattle.ctrl_clusters.specs.NewRows.{one_row, value_among, written}
 use Rattle.ctrl_clusters.proofs.NewRowLemmas.{same_values, length_written, written_at}
-use Rattle.ctrl_clusters.proofs.OverlayLemmas.{refused_are, value_own}
-use Rattle.ctrl_forecast.specs.declared.board.Forecast.{Forecast}
-use Rattle.ctrl_forecast.specs.Forecasts.{QueuedData, forecast_over, forecasts}
-use Rattle.ctrl_forecast.specs.Boards.{asked_at}
-use Rattle.ctrl_forecast.specs.Asking.{values_after, row_at, comes_out_at}
+use Rattle.ctrl_clusters.proofs.OverlayLemmas.{value_own}
 use Rattle.ctrl_forecast.specs.Unchanged.{is_same_outcome}
-use Rattle.ctrl_forecast.specs.Frames.{FrameData, no_frame, frame_at, queued_of, forecast_of, Setting, row_result, row_over, values_before, base_at, with_or_without, with_row_result, renewed, renewed_at, AreRisingBelow, IsKeptFrame, AreKeptFrames, IsRightAt, IsAlikeIn, IsClusterRenewed}
-use Rattle.ctrl_forecast.proofs.FrameLemmas.{behind_long}
+use Rattle.ctrl_forecast.specs.Frames.{FrameData, frame_at, Setting, row_result, row_over, values_before, base_at, with_or_without, with_row_result, renewed, renewed_at, AreRisingBelow, IsKeptFrame, AreKeptFrames, IsRightAt, IsAlikeIn, IsClusterRenewed}
 use Rattle.ctrl_forecast.proofs.RisingLemmas.{with_at, among_passing, marked_passing, passing_same}
-use Rattle.ctrl_forecast.proofs.RightLemmas.{right_moves, outcome_alike, overlay_row}
+use Rattle.ctrl_forecast.proofs.RightLemmas.{right_moves}
 use Rattle.ctrl_forecast.proofs.RenewLemmas.{ranges_agree, grabs_agree, step_at, step_else, step_rows, step_refused, renewed_next}
-use Rattle.ctrl_forecast.proofs.AskingLemmas.{based_right, kept_asked, over_alike}
 use Rattle.ctrl_forecast.proofs.UnchangedLemmas.{same_outcome}
 
 -- values stay where a cluster gets the row that it has
@@ -75,82 +65,6 @@ frame_replaced plan k row b frame is lt = by (is_same_outcome (row_of frame.valu
     by true h = sym (frame_own plan k row b frame is lt h)
     by false h = refl
 
--- what the frame at a place will have
-abbrev pub now_at : Setting → List QueuedData → ℕ → Forecast
-now_at s qs p = row_at (forecasts s.verdicts s.plan s.controls s.values s.grabs qs) p
-
-no_queued : QueuedData
-no_queued = record { request = record { 0 = 0 }; buffer = 0; asked = [] }
-
--- is what its pairs make of what the frames before it leave
-forecast_at : (verdicts : Verdicts) (plan : PlanData) (controls : List Control) (grabs : Grabs) (values : Values) (qs : List QueuedData) (i : ℕ) → i < length qs
-    → row_at (forecasts verdicts plan controls values grabs qs) i ≡ forecast_over verdicts plan controls (values_after verdicts plan controls values grabs qs i) grabs (get_or qs i no_queued)
-unfolding forecasts no_queued
-forecast_at verdicts plan controls grabs values [] i lt = absurd (omega (arith, lt))
-forecast_at verdicts plan controls grabs values (q ∷ qs) zero lt = refl
-forecast_at verdicts plan controls grabs values (q ∷ qs) (suc i) lt = forecast_at verdicts plan controls grabs (overlay verdicts plan controls values grabs q.asked) qs i (omega (arith, lt))
-
--- Where a cluster is right in the frames before a place, what is made of it there is what the frame will have.
-pub outcome_now : (s : Setting) (fs : List FrameData) (k p : ℕ) → IsPlan s.plan → length s.values ≡ length s.plan.controls → k < length s.plan.clusters → p < length fs
-    → ((i : ℕ) → i < p → i < length fs → IsRightAt s fs k i)
-    → (row_over s (base_at s fs p) (frame_at fs p).asked k ≡ row_of (now_at s (map queued_of fs) p).values (members s.plan k))
-    × (is_err (row_result s (base_at s fs p) (frame_at fs p).asked k) ≡ list_any (nat_eq k) (now_at s (map queued_of fs) p).refused)
-unfolding no_queued
-outcome_now s fs k p is many lt less right = (
-  over_alike s (base_at s fs p) before (frame_at fs p).asked k based
-      ∙ ap (λ (pairs : List Pair). row_over s before pairs k) (kept_asked fs p less)
-      ∙ sym (overlay_row s before (asked_at qs p) k is (behind_long s.verdicts s.plan s.controls s.grabs s.values (take p qs) ∙ many) lt)
-      ∙ ap (λ (f : Forecast). row_of f.values (members s.plan k)) (sym there),
-  ap is_err (outcome_alike s.verdicts s.plan s.controls s.controls (base_at s fs p) before s.grabs s.grabs (frame_at fs p).asked k based (ranges_agree s (members s.plan k)) (grabs_agree s (members s.plan k)))
-      ∙ ap (λ (pairs : List Pair). is_err (row_result s before pairs k)) (kept_asked fs p less)
-      ∙ sym (refused_are s.verdicts s.plan s.controls before s.grabs (asked_at qs p) k lt)
-      ∙ ap (λ (f : Forecast). list_any (nat_eq k) f.refused) (sym there),
-)
-  where
-    qs : List QueuedData
-    qs = map queued_of fs
-
-    before : Values
-    before = values_after s.verdicts s.plan s.controls s.values s.grabs qs p
-
-    based : row_of (base_at s fs p) (members s.plan k) ≡ row_of before (members s.plan k)
-    based = based_right s fs k p is many lt (omega (arith, less)) right
-
-    there : now_at s qs p ≡ forecast_over s.verdicts s.plan s.controls before s.grabs (get_or qs p no_queued)
-    there = forecast_at s.verdicts s.plan s.controls s.grabs s.values qs p (omega (arith, less, length-map fs queued_of))
-
--- and where it is right there, too, the frame has it
-pub right_now : (s : Setting) (fs : List FrameData) (k p : ℕ) → IsPlan s.plan → length s.values ≡ length s.plan.controls → k < length s.plan.clusters → p < length fs
-    → ((i : ℕ) → i < length fs → IsRightAt s fs k i)
-    → (row_of (frame_at fs p).values (members s.plan k) ≡ row_of (now_at s (map queued_of fs) p).values (members s.plan k))
-    × (list_any (nat_eq k) (frame_at fs p).refused ≡ list_any (nat_eq k) (now_at s (map queued_of fs) p).refused)
-right_now s fs k p is many lt less right =
-    let out = outcome_now s fs k p is many lt less (λ i early within. right i within) in
-    ((right p less).row ∙ out.0, (right p less).refused ∙ out.1)
-
--- Whether the cluster of a frame that is not renewed yet is made what it was is whether it comes out as it was.
-pub step_same : (s : Setting) (old fs : List FrameData) (k p : ℕ) → IsPlan s.plan → length s.values ≡ length s.plan.controls → k < length s.plan.clusters → p < length fs → length fs ≡ length old
-    → map queued_of fs ≡ map queued_of old → frame_at fs p ≡ frame_at old p → ((i : ℕ) → i < p → i < length fs → IsRightAt s fs k i)
-    → is_same_outcome (row_of (frame_at fs p).values (members s.plan k)) (list_any (nat_eq k) (frame_at fs p).refused) (row_over s (base_at s fs p) (frame_at fs p).asked k) (is_err (row_result s (base_at s fs p) (frame_at fs p).asked k))
-    ≡ comes_out_at s.verdicts s.plan s.controls s.values s.grabs (map queued_of old) (map forecast_of old) k p
-step_same s old fs k p is many lt less long queued own right =
-    ap (λ (r : List CtrlValue). is_same_outcome (row_of (frame_at fs p).values ms) (list_any (nat_eq k) (frame_at fs p).refused) r (is_err (row_result s (base_at s fs p) (frame_at fs p).asked k)))
-    (out.0 ∙ ap (λ (qs : List QueuedData). row_of (now_at s qs p).values ms) queued)
-    ∙ ap (λ (b : Bool). is_same_outcome (row_of (frame_at fs p).values ms) (list_any (nat_eq k) (frame_at fs p).refused) (row_of now.values ms) b) (out.1 ∙ ap (λ (qs : List QueuedData). list_any (nat_eq k) (now_at s qs p).refused) queued)
-    ∙ ap (λ (f : FrameData). is_same_outcome (row_of f.values ms) (list_any (nat_eq k) f.refused) (row_of now.values ms) (list_any (nat_eq k) now.refused)) own
-    ∙ ap (λ (f : Forecast). is_same_outcome (row_of f.values ms) (list_any (nat_eq k) f.refused) (row_of now.values ms) (list_any (nat_eq k) now.refused))
-    (sym (get_or-map forecast_of old p no_frame (forecast_of no_frame) (omega (arith, less, long))))
-  where
-    ms : List ℕ
-    ms = members s.plan k
-
-    now : Forecast
-    now = now_at s (map queued_of old) p
-
-    out : (row_over s (base_at s fs p) (frame_at fs p).asked k ≡ row_of (now_at s (map queued_of fs) p).values (members s.plan k))
-        × (is_err (row_result s (base_at s fs p) (frame_at fs p).asked k) ≡ list_any (nat_eq k) (now_at s (map queued_of fs) p).refused)
-    out = outcome_now s fs k p is many lt less right
-
 -- one frame more is renewed: the other clusters stay
 pub alike_next : (s : Setting) (k p j : ℕ) (old fs : List FrameData) → IsPlan s.plan → AreKeptFrames s.plan fs → p < length fs → k < length s.plan.clusters → j < length s.plan.clusters → j ≢ k
     → IsAlikeIn s.plan j old fs → IsAlikeIn s.plan j old (renewed_at s k p fs)
@@ -162,14 +76,6 @@ alike_next s k p j old fs is are less lt within other so_far = record {
 -- and the frames behind it do
 pub later_next : (s : Setting) (k p : ℕ) (old fs : List FrameData) → ((i : ℕ) → p ≤ i → frame_at fs i ≡ frame_at old i) → (i : ℕ) → p + 1 ≤ i → frame_at (renewed_at s k p fs) i ≡ frame_at old i
 later_next s k p old fs later i le = step_else s k p i fs (λ e. absurd (omega (arith, le, e))) ∙ later i (omega (arith, le))
-
--- one place more at which a test fails
-pub none_next : (passes : ℕ → Bool) (from p : ℕ) → ((i : ℕ) → from ≤ i → i < p → passes i ≡ false) → passes p ≡ false → (i : ℕ) → from ≤ i → i < p + 1 → passes i ≡ false
-none_next passes from p none here i first below = by (eqb_tells i p)
-  where
-    by : ((i == p) ≡ true × (i ≡ p)) ⊎ ((i == p) ≡ false × (i ≢ p)) → passes i ≡ false
-    by (inl e) = ap passes e.1 ∙ here
-    by (inr e) = none i first (omega (arith, below, e.1))
 
 -- The frame at a place comes out as it was: the frames behind it stand over the same row, and the cluster is renewed in all frames.
 pub walk_stops : (s : Setting) (k from p : ℕ) (old fs : List FrameData) → IsPlan s.plan → k < length s.plan.clusters → from ≤ p → p < length fs → length fs ≡ length old
@@ -215,13 +121,8 @@ walk_stops s k from p old fs is lt first less long elsewhere later same so_far =
         (ap (λ (f : FrameData). list_any (nat_eq k) f.refused) (own i (omega (arith, le))))
         (elsewhere i (λ e. absurd (omega (arith, le, first, e))) (omega (arith, within, many)))
 
--- what a step that changes the frame, or doesn't, says of the outcome
+-- what a step that doesn't change the frame says of the outcome
 pub stopped : (changed same : Bool) → changed ≡ false → changed ≡ not same → same ≡ true
 stopped changed true stops is = refl
 stopped true false stops is = cc
 stopped false false stops is = cc
-
-pub went_on : (changed same : Bool) → changed ≡ true → changed ≡ not same → same ≡ false
-went_on changed false goes is = refl
-went_on true true goes is = cc
-went_on false true goes is = cc

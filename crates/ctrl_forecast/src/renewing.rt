@@ -1,15 +1,15 @@
 //! Clusters that are renewed in frames that are kept, one cluster after another, each through the frames in their order: up to the first that comes out as it was, or,
 //! where what the frames refuse may have changed, through all of them.
 
-ghost use Rattle.std.specs.Prelude.{◌≡◌, ◌≢◌, ◌<◌, ◌≤◌, ℕ, false, not, cond, length, map, is_err, nat_eq, slice_set};
+ghost use Rattle.std.specs.Prelude.{◌≡◌, ◌≢◌, ◌<◌, ◌≤◌, ◌+◌, ℕ, false, not, cond, drop, length, map, is_err, nat_eq, slice_set};
 ghost use Rattle.std.specs.List.{All, list_any};
 ghost use Rattle.ctrl_handlers.specs.Plan.{members};
 ghost use Rattle.ctrl_clusters.specs.NewRows.{with_row};
 ghost use Rattle.ctrl_clusters.specs.Rows.{row_of, value_at};
-ghost use Rattle.ctrl_clusters.specs.Judging.{with_call, with_calls};
-ghost use Rattle.ctrl_forecast.specs.Asking.{asked_from, asked_up_to, asks_row, renewing_count, renewing_until_same};
+ghost use Rattle.ctrl_clusters.specs.Overlay.{is_touched};
 ghost use Rattle.ctrl_forecast.specs.Boards.{board_at};
-ghost use Rattle.ctrl_forecast.specs.Frames.{AreKeptFrames, AreReady, AreReadyAt, IsAlikeIn, IsClusterRenewed, IsRightAt, base_at, board_seen, forecast_of, frame_at, queued_of, renewed_at, row_over, row_result, setting_at, values_before, with_or_without, with_row_result};
+ghost use Rattle.ctrl_forecast.specs.Forecasts.{named_by_frames, naming_count};
+ghost use Rattle.ctrl_forecast.specs.Frames.{AreKeptFrames, AreReady, AreReadyAt, IsAlikeIn, IsClusterRenewed, IsRightAt, base_at, board_seen, frame_at, queued_of, renewed_at, row_over, row_result, setting_at, values_before, with_or_without, with_row_result};
 ghost use Rattle.ctrl_forecast.specs.Unchanged.{is_same_outcome};
 
 use crate::frame::Frame;
@@ -31,7 +31,8 @@ pub(crate) fn renew_clusters<D: Driver>(
     requires from { from ≤ length frames.old.items }
     requires ready { AreReadyAt (setting_at D.verdict at.now) from clusters.now frames.old.items }
     ensures frames { board_seen frames.new.items ≡ board_at D.verdict at.now (map queued_of frames.old.items) }
-    ensures counted { work.new.asked ≡ with_calls (renewing_until_same D.verdict at.now.plan.now at.now.ranges.now at.now.values.now at.now.grabs.now (map queued_of frames.old.items) (map forecast_of frames.old.items) from clusters.now) work.old.asked }
+    ensures asked { work.new.asked ≤ work.old.asked + named_by_frames at.now.plan.now (drop from (map queued_of frames.old.items)) clusters.now }
+    ensures grows { work.old.asked ≤ work.new.asked }
     ensures told { work.new.told ≡ work.old.told }
 {
     for &cluster in clusters {
@@ -54,7 +55,8 @@ fn renew_cluster<D: Driver>(
     requires elsewhere { (i : ℕ) → i ≢ from → i < length frames.old.items → IsRightAt (setting_at D.verdict at.now) frames.old.items cluster i }
     ensures renewed { IsClusterRenewed (setting_at D.verdict at.now) cluster (length frames.new.items) frames.old.items frames.new.items }
     ensures apart { (j : ℕ) → j < length at.now.plan.now.clusters → j ≢ cluster → IsAlikeIn at.now.plan.now j frames.old.items frames.new.items }
-    ensures counted { work.new.asked ≡ with_calls (asked_up_to D.verdict at.now.plan.now at.now.ranges.now at.now.values.now at.now.grabs.now (map queued_of frames.old.items) (map forecast_of frames.old.items) from cluster) work.old.asked }
+    ensures asked { work.new.asked ≤ work.old.asked + naming_count at.now.plan.now (drop from (map queued_of frames.old.items)) cluster }
+    ensures grows { work.old.asked ≤ work.new.asked }
     ensures told { work.new.told ≡ work.old.told }
 {
     // one row for all frames, since every row of the cluster is as long
@@ -78,7 +80,8 @@ pub(crate) fn rejudge_clusters<D: Driver>(
     requires from { from ≤ length frames.old.items }
     requires ready { AreReady (setting_at D.verdict at.now) from clusters.now frames.old.items }
     ensures frames { board_seen frames.new.items ≡ board_at D.verdict at.now (map queued_of frames.old.items) }
-    ensures counted { work.new.asked ≡ with_calls (renewing_count D.verdict at.now.plan.now at.now.ranges.now at.now.values.now at.now.grabs.now (map queued_of frames.old.items) from clusters.now) work.old.asked }
+    ensures asked { work.new.asked ≤ work.old.asked + named_by_frames at.now.plan.now (drop from (map queued_of frames.old.items)) clusters.now }
+    ensures grows { work.old.asked ≤ work.new.asked }
     ensures told { work.new.told ≡ work.old.told }
 {
     for &cluster in clusters {
@@ -99,7 +102,8 @@ fn rejudge_cluster<D: Driver>(
     requires frames { AreKeptFrames at.now.plan.now frames.old.items }
     requires before { (i : ℕ) → i < from → i < length frames.old.items → IsRightAt (setting_at D.verdict at.now) frames.old.items cluster i }
     ensures renewed { IsClusterRenewed (setting_at D.verdict at.now) cluster (length frames.new.items) frames.old.items frames.new.items }
-    ensures counted { work.new.asked ≡ with_calls (asked_from D.verdict at.now.plan.now at.now.ranges.now at.now.values.now at.now.grabs.now (map queued_of frames.old.items) from cluster) work.old.asked }
+    ensures asked { work.new.asked ≤ work.old.asked + naming_count at.now.plan.now (drop from (map queued_of frames.old.items)) cluster }
+    ensures grows { work.old.asked ≤ work.new.asked }
     ensures told { work.new.told ≡ work.old.told }
 {
     // one row for all frames, since every row of the cluster is as long
@@ -125,7 +129,9 @@ fn renew_at<D: Driver>(
     requires place { place < length frames.old.items }
     requires row { length row.old ≡ length (members at.now.plan.now cluster) }
     ensures frames { frames.new.items ≡ renewed_at (setting_at D.verdict at.now) cluster place frames.old.items }
-    ensures counted { work.new ≡ record work.old { asked = with_call (asks_row at.now.plan.now at.now.ranges.now (values_before at.now.values.now frames.old.items place) at.now.grabs.now (frame_at frames.old.items place).asked cluster) work.old.asked } }
+    ensures asked { work.new.asked ≤ work.old.asked + cond (is_touched (frame_at frames.old.items place).asked (members at.now.plan.now cluster)) 1 0 }
+    ensures grows { work.old.asked ≤ work.new.asked }
+    ensures told { work.new.told ≡ work.old.told }
     ensures changed { result ≡ not (is_same_outcome (row_of (frame_at frames.old.items place).values (members at.now.plan.now cluster)) (list_any (nat_eq cluster) (frame_at frames.old.items place).refused)
         (row_over (setting_at D.verdict at.now) (base_at (setting_at D.verdict at.now) frames.old.items place) (frame_at frames.old.items place).asked cluster)
         (is_err (row_result (setting_at D.verdict at.now) (base_at (setting_at D.verdict at.now) frames.old.items place) (frame_at frames.old.items place).asked cluster))) }

@@ -1,17 +1,12 @@
-use Rattle.std.proofs.Common.{◌≡◌, ◌∙◌, ◌≤◌, ◌+◌, ◌∷◌, ℕ, List, Bool, Vec, Global, length, count_by, drop, take, get_or, ap, refl, subst, arith}
+use Rattle.std.proofs.Common.{◌≡◌, ◌∙◌, ◌≤◌, ◌+◌, ◌∷◌, ℕ, List, Bool, Vec, Global, length, drop, get_or, ap, refl, subst, arith}
 use Rattle.std.proofs.lemmas.List.{drop_more, drop_all}
 use Rattle.std.proofs.lemmas.List.Sums.{length-filter}
 use Rattle.std.specs.List.{range_with_len}
 use Rattle.ctrl_types.specs.declared.value.CtrlValue.{CtrlValue}
 use Rattle.ctrl_handlers.specs.Plan.{members}
 use Rattle.ctrl_clusters.specs.Rows.{Values}
-use Rattle.ctrl_calls.specs.declared.work.Work.{Work}
-use Rattle.ctrl_clusters.specs.Judging.{with_call, with_calls}
 use Rattle.ctrl_clusters.specs.Overlay.{is_touched, refused_clusters}
-use Rattle.ctrl_clusters.proofs.CallLemmas.{one_call}
-use Rattle.ctrl_forecast.specs.Asking.{asks_row}
 use Rattle.ctrl_forecast.specs.Touched.{touched_count}
-use Rattle.ctrl_forecast.proofs.AskingLemmas.{asked_all, asked_next}
 use Rattle.ctrl_forecast.proofs.LayingLemmas.{below_end}
 use Rattle.ctrl_forecast.proofs.LaidLemmas.{Laying, IsLaid, laying, keep_rows, laid_start, laid_long, laid_next, laid_ok, laid_err, laid_end}
 use Rattle.ctrl_forecast.proofs.laying.overlay_named.Goals.{in-Ok, in-Err+in_ok-push-in-Err}
@@ -22,7 +17,7 @@ loop-cluster-init g c = record {
   laid = laid_start (laying g.D.Validates.verdict c.args.at.now.plan.now c.args.at.now.ranges.now c.args.at.now.values.now c.args.at.now.grabs.now c.args.pairs.now) c.args.named.now c.in_ok-after.after.items c.new-refused.result.items
       c.requires.named c.in_ok-after.ensures.items c.new-refused.ensures.items;
   asked = omega arith;
-  counted = refl;
+  grows = omega arith;
   told = refl;
 }
 
@@ -60,9 +55,7 @@ pub returns-in_err-push-in-Err-clause-asked : goal.returns-in_err-push-in-Err-cl
 returns-in_err-push-in-Err-clause-asked g c =
     let touched : ℕ → Bool = λ j. is_touched c.args.pairs.now (members c.args.at.now.plan.now j) in
     let many : length c.args.named.now ≡ touched_count c.args.at.now.plan.now c.args.pairs.now = ap length c.requires.named ∙ length-filter touched (range_with_len 0 (length c.args.at.now.plan.now.clusters)) in
-    let one : Bool = asks_row c.args.at.now.plan.now c.args.at.now.ranges.now c.args.at.now.values.now c.args.at.now.grabs.now c.args.pairs.now (get_or c.args.named.now c.loop-cluster.cluster-index 0) in
-    let made : c.touched_row.new.work.asked ≡ with_call one c.loop-cluster.work.asked = ap (λ (w : Work). w.asked) c.touched_row.ensures.counted in
-    omega (arith, c.loop-cluster.invariant.asked, made, one_call one c.loop-cluster.work.asked, c.loop-cluster-test.true, many)
+    omega (arith, c.loop-cluster.invariant.asked, c.touched_row.ensures.asked, c.loop-cluster-test.true, many)
 
 pub loop-cluster-preserved : goal.loop-cluster-preserved
 loop-cluster-preserved g c =
@@ -74,25 +67,22 @@ loop-cluster-preserved g c =
     let before : List ℕ = c.loop-cluster.refused.items in
     let keep = keep_rows g.D.Validates.verdict c.args.at.now.plan.now c.args.at.now.ranges.now c.args.at.now.values.now c.args.at.now.grabs.now c.args.pairs.now in
     let laid : IsLaid l (k ∷ drop (i + 1) ks) old before = subst (λ (left : List ℕ). IsLaid l left old before) (drop_more ks i 0 c.loop-cluster-test.true) c.loop-cluster.invariant.laid in
-    let one : ℕ → Bool = asks_row c.args.at.now.plan.now c.args.at.now.ranges.now c.args.at.now.values.now c.args.at.now.grabs.now c.args.pairs.now in
-    let made : c.touched_row.new.work.asked ≡ with_call (one k) c.loop-cluster.work.asked = ap (λ (w : Work). w.asked) c.touched_row.ensures.counted in
-    let asked : c.touched_row.new.work.asked ≤ c.args.work.now.asked + (i + 1) = omega (arith, c.loop-cluster.invariant.asked, made, one_call (one k) c.loop-cluster.work.asked) in
-    let counted : c.touched_row.new.work.asked ≡ with_calls (count_by one (take (i + 1) ks)) c.args.work.now.asked =
-    asked_next one ks i c.args.work.now.asked c.loop-cluster.work.asked c.touched_row.new.work.asked c.loop-cluster-test.true c.loop-cluster.invariant.counted made in
+    let asked : c.touched_row.new.work.asked ≤ c.args.work.now.asked + (i + 1) = omega (arith, c.loop-cluster.invariant.asked, c.touched_row.ensures.asked) in
+    let grows : c.args.work.now.asked ≤ c.touched_row.new.work.asked = omega (arith, c.loop-cluster.invariant.grows, c.touched_row.ensures.grows) in
     elim c.match-touched_row.branch [
       | in-Ok w ↦ record {
         laid = laid_ok l k (drop (i + 1) ks) c.touched_row.new.row old c.match-touched_row.after.items before c.match-touched_row.refused.items keep laid w.in-Ok.ensures.ok
             (ap (λ (v : Vec CtrlValue Global). v.items) w.after-is ∙ w.write_row.ensures) (ap (λ (v : Vec ℕ Global). v.items) w.refused-is);
         asked = asked;
-        counted = counted;
-        told = ap (λ (w : Work). w.told) c.touched_row.ensures.counted ∙ c.loop-cluster.invariant.told;
+        grows = grows;
+        told = c.touched_row.ensures.told ∙ c.loop-cluster.invariant.told;
       }
       | in-Err+in_ok-push-in-Err w ↦ record {
         laid = laid_err l k (drop (i + 1) ks) w.in-Err.field-0 old c.match-touched_row.after.items before c.match-touched_row.refused.items keep laid w.in-Err.ensures.err
             (ap (λ (v : Vec CtrlValue Global). v.items) w.after-is) (ap (λ (v : Vec ℕ Global). v.items) w.refused-is ∙ w.in_ok-push-in-Err.ensures.items);
         asked = asked;
-        counted = counted;
-        told = ap (λ (w : Work). w.told) c.touched_row.ensures.counted ∙ c.loop-cluster.invariant.told;
+        grows = grows;
+        told = c.touched_row.ensures.told ∙ c.loop-cluster.invariant.told;
       }
     ]
 
@@ -127,8 +117,3 @@ returns-clause-asked g c =
     let touched : ℕ → Bool = λ j. is_touched c.args.pairs.now (members c.args.at.now.plan.now j) in
     let many : length c.args.named.now ≡ touched_count c.args.at.now.plan.now c.args.pairs.now = ap length c.requires.named ∙ length-filter touched (range_with_len 0 (length c.args.at.now.plan.now.clusters)) in
     omega (arith, c.loop-cluster.invariant.asked, c.loop-cluster.auto.cluster-index-end, many)
-
-pub returns-clause-counted : goal.returns-clause-counted
-returns-clause-counted g c =
-    asked_all c.args.at.now.plan.now c.args.at.now.ranges.now c.args.at.now.values.now c.args.at.now.grabs.now c.args.pairs.now c.args.named.now c.loop-cluster.cluster-index c.args.work.now.asked c.loop-cluster.work.asked
-    c.requires.named c.loop-cluster-test.false c.loop-cluster.invariant.counted

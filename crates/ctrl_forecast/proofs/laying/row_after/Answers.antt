@@ -2,5 +2,5 @@
 use Rattle.std.proofs.Common.{rules}
 use Rattle.ctrl_forecast.proofs.laying.row_after.Goals as goal
 
-pub returns-then-not-is_touched-clause-counted : goal.returns-then-not-is_touched-clause-counted
-returns-then-not-is_touched-clause-counted g c = search rules
+pub returns-then-not-is_touched-clause-asked : goal.returns-then-not-is_touched-clause-asked
+returns-then-not-is_touched-clause-asked g c = search rules

@@ -2,7 +2,7 @@ use Rattle.std.proofs.Common.{◌≡◌, ◌∙◌, List, Ok, Err, length, ap}
 use Rattle.ctrl_handlers.specs.Plan.{members}
 use Rattle.ctrl_clusters.specs.Rows.{row_of}
 use Rattle.ctrl_forecast.specs.Frames.{AreKeptFrames, FrameData, Setting, base_at, frame_at, row_result, setting, values_before}
-use Rattle.ctrl_forecast.proofs.CopyLemmas.{IsReadAt, counted_at, kept_at, outcome_at, read_at, renewed_by, room_at, settled_at}
+use Rattle.ctrl_forecast.proofs.CopyLemmas.{IsReadAt, asked_at_most, kept_at, outcome_at, read_at, renewed_by, room_at, settled_at}
 use Rattle.ctrl_forecast.proofs.RenewLemmas.{base_long}
 use Rattle.ctrl_forecast.proofs.renewing.renew_at.Goals as goal
 
@@ -79,26 +79,26 @@ returns-in-Err-clause-frames g c =
     c.keep_at-in-Err.ensures.frames ∙ renewed_by s fs c.args.cluster c.args.place (Err c.in-Err.field-0) c.keep_at-in-Err.result c.requires.frames c.requires.cluster c.requires.place out c.keep_at-in-Err.ensures.changed
 
 -- written out so that a wrong body is refused soon (docs/GATE.md)
-pub returns-in-Ok-true-clause-counted : goal.returns-in-Ok-true-clause-counted
-returns-in-Ok-true-clause-counted g c =
+pub returns-in-Ok-true-clause-asked : goal.returns-in-Ok-true-clause-asked
+returns-in-Ok-true-clause-asked g c =
     let s : Setting = setting g.D.Validates.verdict c.args.at.now.plan.now c.args.at.now.ranges.now c.args.at.now.values.now c.args.at.now.grabs.now in
     let fs : List FrameData = c.args.frames.now.items in
     let read : IsReadAt s fs c.args.place c.values_before-base.result.now c.asked-asked.result.now =
     read_at s fs c.as_slice.result.now c.args.place c.values_before-base.result.now c.asked-asked.result.now c.index.result.now c.requires.place c.as_slice.ensures.value c.values_before-base.ensures c.index.ensures c.asked-asked.ensures in
-    counted_at s fs c.args.cluster c.args.place c.values_before-base.result.now c.asked-asked.result.now c.args.work.now c.row_after.new.work read c.row_after.ensures.counted
+    asked_at_most s fs c.args.cluster c.args.place c.values_before-base.result.now c.asked-asked.result.now c.args.work.now.asked c.row_after.new.work.asked read c.row_after.ensures.asked
 
-pub returns-in-Ok-false-clause-counted : goal.returns-in-Ok-false-clause-counted
-returns-in-Ok-false-clause-counted g c =
+pub returns-in-Ok-false-clause-asked : goal.returns-in-Ok-false-clause-asked
+returns-in-Ok-false-clause-asked g c =
     let s : Setting = setting g.D.Validates.verdict c.args.at.now.plan.now c.args.at.now.ranges.now c.args.at.now.values.now c.args.at.now.grabs.now in
     let fs : List FrameData = c.args.frames.now.items in
     let read : IsReadAt s fs c.args.place c.values_before-base.result.now c.asked-asked.result.now =
     read_at s fs c.as_slice.result.now c.args.place c.values_before-base.result.now c.asked-asked.result.now c.index.result.now c.requires.place c.as_slice.ensures.value c.values_before-base.ensures c.index.ensures c.asked-asked.ensures in
-    counted_at s fs c.args.cluster c.args.place c.values_before-base.result.now c.asked-asked.result.now c.args.work.now c.row_after.new.work read c.row_after.ensures.counted
+    asked_at_most s fs c.args.cluster c.args.place c.values_before-base.result.now c.asked-asked.result.now c.args.work.now.asked c.row_after.new.work.asked read c.row_after.ensures.asked
 
-pub returns-in-Err-clause-counted : goal.returns-in-Err-clause-counted
-returns-in-Err-clause-counted g c =
+pub returns-in-Err-clause-asked : goal.returns-in-Err-clause-asked
+returns-in-Err-clause-asked g c =
     let s : Setting = setting g.D.Validates.verdict c.args.at.now.plan.now c.args.at.now.ranges.now c.args.at.now.values.now c.args.at.now.grabs.now in
     let fs : List FrameData = c.args.frames.now.items in
     let read : IsReadAt s fs c.args.place c.values_before-base.result.now c.asked-asked.result.now =
     read_at s fs c.as_slice.result.now c.args.place c.values_before-base.result.now c.asked-asked.result.now c.index.result.now c.requires.place c.as_slice.ensures.value c.values_before-base.ensures c.index.ensures c.asked-asked.ensures in
-    counted_at s fs c.args.cluster c.args.place c.values_before-base.result.now c.asked-asked.result.now c.args.work.now c.row_after.new.work read c.row_after.ensures.counted
+    asked_at_most s fs c.args.cluster c.args.place c.values_before-base.result.now c.asked-asked.result.now c.args.work.now.asked c.row_after.new.work.asked read c.row_after.ensures.asked

@@ -1,8 +1,6 @@
 use Rattle.std.proofs.Common.{◌∙◌, ◌++◌, List, [], ◌∷◌, length, map, ap}
 use Rattle.ctrl_clusters.specs.Rows.{Values}
-use Rattle.ctrl_clusters.specs.Judging.{with_calls}
 use Rattle.ctrl_forecast.specs.declared.board.Forecast.{Forecast}
-use Rattle.ctrl_forecast.specs.Asking.{asked_count}
 use Rattle.ctrl_forecast.specs.Boards.{BoardData}
 use Rattle.ctrl_forecast.specs.Forecasts.{values_behind}
 use Rattle.ctrl_forecast.specs.Frames.{FrameData, board_seen, forecast_of, frame_over}
@@ -24,10 +22,3 @@ returns-clause-ok g c =
     ∙ ap (λ (f : FrameData). before ++ f ∷ [])
     (c.in_ok-frame.ensures.frame ∙ ap over (c.values_behind.ensures ∙ ap (λ (fs : List FrameData). values_behind c.args.at.now.values.now (map forecast_of fs)) c.reserve.ensures.items)))
     ∙ kept_more g.D.Validates.verdict c.args.at.now.plan.now c.args.at.now.ranges.now c.args.at.now.grabs.now c.args.at.now.values.now before c.args.self.now.queued c.args.queued.now (c.self.view_is ∙ c.requires.kept)
-
--- it is laid over what the last one leaves
-pub returns-clause-counted : goal.returns-clause-counted
-returns-clause-counted g c =
-    c.in_ok-frame.ensures.counted
-    ∙ ap (λ (values : Values). with_calls (asked_count c.args.at.now.plan.now c.args.at.now.ranges.now values c.args.at.now.grabs.now c.args.queued.now.asked) c.args.work.now.asked)
-    (c.values_behind.ensures ∙ ap (values_behind c.args.at.now.values.now) (ap (map forecast_of) c.reserve.ensures.items ∙ ap (λ (b : BoardData). b.forecasts) c.self.view_is))

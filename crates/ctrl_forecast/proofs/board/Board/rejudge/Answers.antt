@@ -1,11 +1,7 @@
-use Rattle.std.proofs.Common.{◌≡◌, ◌∙◌, ◌≤◌, ◌+◌, ℕ, List, map, sym, ap, arith}
-use Rattle.ctrl_clusters.specs.Judging.{with_calls}
-use Rattle.ctrl_forecast.specs.Asking.{renewing_count}
+use Rattle.std.proofs.Common.{◌≡◌, ◌∙◌, List, map, sym, ap, arith}
 use Rattle.ctrl_forecast.specs.Boards.{BoardData, board_of}
 use Rattle.ctrl_forecast.specs.Forecasts.{named_by_frames}
 use Rattle.ctrl_forecast.specs.Frames.{FrameData, queued_of}
-use Rattle.ctrl_clusters.proofs.CallLemmas.{calls_most}
-use Rattle.ctrl_forecast.proofs.AskingLemmas.{renewing_most}
 use Rattle.ctrl_forecast.proofs.ReadyLemmas.{ready_changed}
 use Rattle.ctrl_forecast.proofs.board.Board.rejudge.Goals as goal
 
@@ -18,11 +14,4 @@ rejudge_clusters-requires-clause-ready g c =
 
 -- a frame that doesn't name the cluster asks nobody
 pub returns-clause-asked : goal.returns-clause-asked
-returns-clause-asked g c =
-    let fs : List FrameData = c.self.inside.frames.items in
-    let ks : List ℕ = c.args.clusters.now in
-    let n : ℕ = renewing_count g.D.Validates.verdict c.args.at.now.plan.now c.args.at.now.ranges.now c.args.at.now.values.now c.args.at.now.grabs.now (map queued_of fs) 0 ks in
-    let made : c.rejudge_clusters.new.work.asked ≡ with_calls n c.args.work.now.asked = c.rejudge_clusters.ensures.counted in
-    let most : with_calls n c.args.work.now.asked ≤ c.args.work.now.asked + named_by_frames c.args.at.now.plan.now (map queued_of fs) ks =
-    calls_most n (named_by_frames c.args.at.now.plan.now (map queued_of fs) ks) c.args.work.now.asked (renewing_most g.D.Validates.verdict c.args.at.now.plan.now c.args.at.now.ranges.now c.args.at.now.grabs.now c.args.at.now.values.now (map queued_of fs) 0 ks) in
-    omega (arith, made, most, ap (λ (b : BoardData). named_by_frames c.args.at.now.plan.now b.queued ks) c.self.view_is)
+returns-clause-asked g c = omega (arith, c.rejudge_clusters.ensures.asked, ap (λ (b : BoardData). named_by_frames c.args.at.now.plan.now b.queued c.args.clusters.now) c.self.view_is)

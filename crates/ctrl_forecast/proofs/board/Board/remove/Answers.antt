@@ -1,17 +1,12 @@
-use Rattle.std.proofs.Common.{◌≡◌, ◌∙◌, ◌<◌, ◌≤◌, ◌+◌, ℕ, List, drop, length, map, refl, sym, ap, subst, arith}
+use Rattle.std.proofs.Common.{◌≡◌, ◌∙◌, ◌<◌, ◌+◌, ℕ, List, drop, length, map, refl, sym, ap, subst, arith}
 use Rattle.std.specs.List.{All, remove}
-use Rattle.std.proofs.lemmas.List.{get_or_read_under, length-map, get_or-map}
-use Rattle.ctrl_clusters.specs.Judging.{with_calls}
-use Rattle.ctrl_forecast.specs.Asking.{removing_count, renewing_until_same}
+use Rattle.std.proofs.lemmas.List.{get_or_read_under, length-map}
 use Rattle.ctrl_forecast.specs.Boards.{BoardData, asked_at, board_of, named_clusters}
-use Rattle.ctrl_forecast.specs.Forecasts.{QueuedData, forecasts, named_by_frames}
-use Rattle.ctrl_forecast.specs.declared.board.Forecast.{Forecast}
-use Rattle.ctrl_forecast.specs.Frames.{AreReadyAt, FrameData, Setting, forecast_of, frame_at, no_frame, queued_of, setting}
-use Rattle.ctrl_clusters.proofs.CallLemmas.{calls_most}
-use Rattle.ctrl_forecast.proofs.AskingLemmas.{behind_removed, renewing_most}
+use Rattle.ctrl_forecast.specs.Forecasts.{QueuedData, named_by_frames}
+use Rattle.ctrl_forecast.specs.Frames.{AreReadyAt, FrameData, Setting, frame_at, no_frame, queued_of, setting}
+use Rattle.ctrl_forecast.proofs.AskingLemmas.{behind_removed, kept_asked}
 use Rattle.ctrl_forecast.proofs.ReadyLemmas.{kept_named, named_within, removed_queued}
-use Rattle.ctrl_forecast.proofs.TurnLemmas.{ready_without, removed_rows}
-use Rattle.ctrl_forecast.proofs.UnchangedLemmas.{until_same_most}
+use Rattle.ctrl_forecast.proofs.TurnLemmas.{ready_without}
 use Rattle.ctrl_forecast.proofs.board.Board.remove.Goals as goal
 
 pub renew_clusters-requires-clause-clusters : goal.renew_clusters-requires-clause-clusters
@@ -46,44 +41,19 @@ returns-clause-frames g c =
     ∙ ap (board_of g.D.Validates.verdict c.args.at.now.plan.now c.args.at.now.ranges.now c.args.at.now.values.now c.args.at.now.grabs.now)
     (ap (map queued_of) c.remove-removed.ensures.items ∙ removed_queued fs p ∙ ap (λ (qs : List QueuedData). remove qs p) (ap (λ (b : BoardData). b.queued) c.self.view_is))
 
--- the clusters that it names are renewed in the frames behind
-renewed : goal.returns-clause-counted
-renewed g c =
-    let fs : List FrameData = c.self.inside.frames.items in
-    let p : ℕ = c.args.place in
-    let lt : p < length fs = omega (arith, c.requires.place, ap (λ (b : BoardData). length b.queued) c.self.view_is, length-map fs queued_of) in
-    let own : c.remove-removed.result ≡ frame_at fs p = get_or_read_under fs p (length fs) c.remove-removed.result no_frame c.remove-removed.ensures.value lt refl in
-    let asks : (frame_at fs p).asked ≡ asked_at c.args.self.now.queued p =
-    ap (λ (q : QueuedData). q.asked) (sym (get_or-map queued_of fs p no_frame (queued_of no_frame) lt)) ∙ ap (λ (b : BoardData). asked_at b.queued p) c.self.view_is in
-    let named : c.named.result.now ≡ named_clusters c.args.at.now.plan.now (asked_at c.args.self.now.queued p) =
-    c.named.ensures ∙ ap (λ (f : FrameData). f.named) own ∙ kept_named g.D.Validates.verdict c.args.at.now.plan.now c.args.at.now.ranges.now c.args.at.now.grabs.now c.args.at.now.values.now fs p c.args.at.now.valued lt c.args.self.now.queued (c.self.view_is ∙ c.requires.kept)
-    ∙ ap (named_clusters c.args.at.now.plan.now) asks in
-    let queued : map queued_of c.remove-removed.new.self.items ≡ remove c.args.self.now.queued p =
-    ap (map queued_of) c.remove-removed.ensures.items ∙ removed_queued fs p ∙ ap (λ (qs : List QueuedData). remove qs p) (ap (λ (b : BoardData). b.queued) c.self.view_is) in
-    let rows : map forecast_of c.remove-removed.new.self.items ≡ remove (forecasts g.D.Validates.verdict c.args.at.now.plan.now c.args.at.now.ranges.now c.args.at.now.values.now c.args.at.now.grabs.now c.args.self.now.queued) p =
-    ap (map forecast_of) c.remove-removed.ensures.items ∙ removed_rows fs p ∙ ap (λ (l : List Forecast). remove l p) (ap (λ (b : BoardData). b.forecasts) (c.self.view_is ∙ c.requires.kept)) in
-    c.renew_clusters.ensures.counted
-    ∙ ap (λ (qs : List QueuedData). with_calls (renewing_until_same g.D.Validates.verdict c.args.at.now.plan.now c.args.at.now.ranges.now c.args.at.now.values.now c.args.at.now.grabs.now qs (map forecast_of c.remove-removed.new.self.items) p c.named.result.now) c.args.work.now.asked) queued
-    ∙ ap (λ (had : List Forecast). with_calls (renewing_until_same g.D.Validates.verdict c.args.at.now.plan.now c.args.at.now.ranges.now c.args.at.now.values.now c.args.at.now.grabs.now (remove c.args.self.now.queued p) had p c.named.result.now) c.args.work.now.asked) rows
-    ∙ ap (λ (ks : List ℕ). with_calls (renewing_until_same g.D.Validates.verdict c.args.at.now.plan.now c.args.at.now.ranges.now c.args.at.now.values.now c.args.at.now.grabs.now (remove c.args.self.now.queued p) (remove (forecasts g.D.Validates.verdict c.args.at.now.plan.now c.args.at.now.ranges.now c.args.at.now.values.now c.args.at.now.grabs.now c.args.self.now.queued) p) p ks) c.args.work.now.asked) named
-
-pub returns-clause-counted : goal.returns-clause-counted
-returns-clause-counted g c = renewed g c
-
 -- a frame that doesn't name the cluster asks nobody
 pub returns-clause-asked : goal.returns-clause-asked
 returns-clause-asked g c =
+    let fs : List FrameData = c.self.inside.frames.items in
     let p : ℕ = c.args.place in
     let qs : List QueuedData = c.args.self.now.queued in
-    let ks : List ℕ = named_clusters c.args.at.now.plan.now (asked_at qs p) in
-    let n : ℕ = removing_count g.D.Validates.verdict c.args.at.now.plan.now c.args.at.now.ranges.now c.args.at.now.values.now c.args.at.now.grabs.now qs p in
-    let made : c.renew_clusters.new.work.asked ≡ with_calls n c.args.work.now.asked = renewed g c in
-    let fewer : n ≤ named_by_frames c.args.at.now.plan.now (drop p (remove qs p)) ks =
-    omega (
-      arith,
-      until_same_most g.D.Validates.verdict c.args.at.now.plan.now c.args.at.now.ranges.now c.args.at.now.values.now c.args.at.now.grabs.now (remove qs p) (remove (forecasts g.D.Validates.verdict c.args.at.now.plan.now c.args.at.now.ranges.now c.args.at.now.values.now c.args.at.now.grabs.now qs) p) p ks,
-      renewing_most g.D.Validates.verdict c.args.at.now.plan.now c.args.at.now.ranges.now c.args.at.now.grabs.now c.args.at.now.values.now (remove qs p) p ks,
-    ) in
-    let most : with_calls n c.args.work.now.asked ≤ c.args.work.now.asked + named_by_frames c.args.at.now.plan.now (drop p (remove qs p)) ks =
-    calls_most n (named_by_frames c.args.at.now.plan.now (drop p (remove qs p)) ks) c.args.work.now.asked fewer in
-    omega (arith, made, most, ap (λ (behind : List QueuedData). named_by_frames c.args.at.now.plan.now behind ks) (behind_removed qs p c.requires.place))
+    let count : List QueuedData → List ℕ → ℕ = named_by_frames c.args.at.now.plan.now in
+    let lt : p < length fs = omega (arith, c.requires.place, ap (λ (b : BoardData). length b.queued) c.self.view_is, length-map fs queued_of) in
+    let own : c.remove-removed.result ≡ frame_at fs p = get_or_read_under fs p (length fs) c.remove-removed.result no_frame c.remove-removed.ensures.value lt refl in
+    let asks : (frame_at fs p).asked ≡ asked_at qs p = kept_asked fs p lt ∙ ap (λ (b : BoardData). asked_at b.queued p) c.self.view_is in
+    let named : c.named.result.now ≡ named_clusters c.args.at.now.plan.now (asked_at qs p) =
+    c.named.ensures ∙ ap (λ (f : FrameData). f.named) own ∙ kept_named g.D.Validates.verdict c.args.at.now.plan.now c.args.at.now.ranges.now c.args.at.now.grabs.now c.args.at.now.values.now fs p c.args.at.now.valued lt qs (c.self.view_is ∙ c.requires.kept)
+    ∙ ap (named_clusters c.args.at.now.plan.now) asks in
+    let behind : drop p (map queued_of c.remove-removed.new.self.items) ≡ drop (p + 1) qs =
+    ap (drop p) (ap (map queued_of) c.remove-removed.ensures.items ∙ removed_queued fs p ∙ ap (λ (b : BoardData). remove b.queued p) c.self.view_is) ∙ behind_removed qs p c.requires.place in
+    omega (arith, c.renew_clusters.ensures.asked, ap (count (drop p (map queued_of c.remove-removed.new.self.items))) named, ap (λ (l : List QueuedData). count l (named_clusters c.args.at.now.plan.now (asked_at qs p))) behind)
