@@ -1,16 +1,10 @@
 -- What the steps that leave file handles, grabs, ranges and values make of the frames that are queued, and how many validators a kept forecast of them asks
--- then (of this project).
+-- at most then (of this project).
 use Rattle.std.specs.Prelude.{ℕ, nat_eq, not, cond, List, [], ◌∷◌, ◌++◌, filter, Option, None, Some}
-use Rattle.std.specs.List.{position, remove}
 use Rattle.ctrl_types.specs.declared.ids.Pair.{Pair}
-use Rattle.ctrl_calls.specs.Meanings.{Verdicts}
-use Rattle.ctrl_settle.specs.Control.{Control}
 use Rattle.ctrl_handlers.specs.Plan.{PlanData}
-use Rattle.ctrl_clusters.specs.Rows.{Grabs, Values}
-use Rattle.ctrl_clusters.specs.Judging.{with_calls}
-use Rattle.ctrl_forecast.specs.Asking.{asked_count, removing_count}
 use Rattle.ctrl_forecast.specs.Boards.{named_clusters}
-use Rattle.ctrl_forecast.specs.Forecasts.{QueuedData, forecasts, named_by_frames, values_behind}
+use Rattle.ctrl_forecast.specs.Forecasts.{QueuedData, named_by_frames}
 use Rattle.ctrl_forecast.specs.Touched.{touched_count}
 use Rattle.req_book.specs.Requests.{RequestData, find}
 use Rattle.frame_queue.specs.Frames.{FramesData, buffer_number}
@@ -44,20 +38,3 @@ abbrev pub asks_at_most : PlanData → FramesData → Step → List QueuedData �
 asks_at_most plan f (steps.Queue r) queued = touched_count plan (frame_in f r.0).asked
 asks_at_most plan f (steps.Cancel r) queued = named_behind plan r.0 queued
 asks_at_most plan f _ queued = 0
-
--- a count once a frame was queued behind others: those that laying it over what the last of them leaves asks
-abbrev pub counted_queueing : Verdicts → PlanData → List Control → Values → Grabs → QueuedData → List QueuedData → ℕ → ℕ
-counted_queueing verdicts plan controls values grabs frame queued count =
-    with_calls (asked_count plan controls (values_behind values (forecasts verdicts plan controls values grabs queued)) grabs frame.asked) count
-
--- a count once the frame at a place, where there is one, was taken out: those that renewing its clusters behind it asks
-abbrev pub counted_removing : Verdicts → PlanData → List Control → Values → Grabs → List QueuedData → Option ℕ → ℕ → ℕ
-counted_removing verdicts plan controls values grabs queued None count = count
-counted_removing verdicts plan controls values grabs queued (Some place) count =
-    with_calls (removing_count verdicts plan controls values grabs queued place) count
-
--- What a count of the validators that were asked is once such a step has changed the queued frames: a queueing and a cancellation ask, and no other step.
-abbrev pub counted_after : Verdicts → PlanData → List Control → Values → Grabs → FramesData → Step → List QueuedData → ℕ → ℕ
-counted_after verdicts plan controls values grabs f (steps.Queue r) queued count = counted_queueing verdicts plan controls values grabs (frame_in f r.0) queued count
-counted_after verdicts plan controls values grabs f (steps.Cancel r) queued count = counted_removing verdicts plan controls values grabs queued (position (λ q. nat_eq r.0 q.request.0) queued) count
-counted_after verdicts plan controls values grabs f _ queued count = count

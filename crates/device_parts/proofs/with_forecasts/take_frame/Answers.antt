@@ -1,9 +1,9 @@
-use Rattle.std.proofs.Common.{◌≡◌, ◌+◌, ℕ, List, Option, Some, None, drop, not, nat_eq, filter, ap, sym, ◌∙◌, arith}
+use Rattle.std.proofs.Common.{◌≡◌, ◌+◌, ℕ, List, Some, None, drop, not, nat_eq, filter, ap, sym, ◌∙◌, arith}
 use Rattle.std.specs.List.{position_from, remove}
 use Rattle.std.proofs.lemmas.Iterator.Adapters.{position_from-zero}
 use Rattle.ctrl_forecast.specs.Boards.{asked_at, board_of, named_clusters}
 use Rattle.ctrl_forecast.specs.Forecasts.{QueuedData, named_by_frames}
-use Rattle.device_parts.specs.QueuedFrames.{counted_removing, named_behind}
+use Rattle.device_parts.specs.QueuedFrames.{named_behind}
 use Rattle.device_parts.proofs.QueuedLemmas.{none_found, one_found}
 use Rattle.device_parts.proofs.with_forecasts.take_frame.Goals as goal
 
@@ -27,12 +27,6 @@ returns-in-Some-clause-asked g c =
     let most : named_by_frames c.args.at.now.plan.now (drop (c.in-Some.place + 1) queued) (named_clusters c.args.at.now.plan.now (asked_at queued c.in-Some.place)) ≡ named_behind c.args.at.now.plan.now c.args.request.0 queued =
     ap (λ (n : ℕ). named_by_frames c.args.at.now.plan.now (drop (n + 1) queued) (named_clusters c.args.at.now.plan.now (asked_at queued n))) at ∙ sym taken.3 in
     omega (arith, c.remove.ensures.asked, most)
-
-pub returns-in-Some-clause-counted : goal.returns-in-Some-clause-counted
-returns-in-Some-clause-counted g c =
-    let queued : List QueuedData = c.args.board.now.queued in
-    c.remove.ensures.counted
-    ∙ ap (λ (o : Option ℕ). counted_removing g.D.Validates.verdict c.args.at.now.plan.now c.args.at.now.ranges.now c.args.at.now.values.now c.args.at.now.grabs.now queued o c.args.work.now.asked) c.in-Some.ensures
 
 -- none is of the request
 pub returns-in_default-clause-board : goal.returns-in_default-clause-board
