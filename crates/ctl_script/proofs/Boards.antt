@@ -1,14 +1,11 @@
 -- What a board does.
-use Rattle.std.proofs.Common.{◌≡◌, ◌≢◌, ℕ, ◌+◌, ◌≤◌, ◌⊎◌, Bool, true, false, not, cond, nat_eq, inl, inr, List, [], ◌∷◌, ◌++◌, length, filter, Option, None, Some, refl, sym, ◌∙◌, subst, arith, append-nil}
+use Rattle.std.proofs.Common.{◌≡◌, ◌≢◌, ℕ, ◌+◌, ◌⊎◌, inl, inr, List, [], ◌++◌, Option, refl, sym, ◌∙◌, subst, append-nil}
 use Rattle.std.specs.Io.KnownBytes.{Appends}
 use Rattle.std.proofs.KnownBytes.{Appends-nil, Appends-trans}
-use Rattle.std.proofs.lemmas.List.{length-append}
 use Rattle.history.specs.Past.{past}
 use Rattle.ctrl_calls.specs.Meanings.{Verdicts, Words}
 use Rattle.ctrl_handlers.specs.Plan.{PlanData}
-use Rattle.device_history.specs.Frames.{all_but, ever_queued, queue}
 use Rattle.device_history.specs.Steps.{Past}
-use Rattle.device_history.proofs.QueueingLemmas.{queued_by, with_last, ever_queued_start, ever_queued_more}
 use Rattle.device_state.specs.Device.{DeviceData}
 use Rattle.script_lines.specs.ControlWords.{ControlWord}
 use Rattle.script_replies.specs.Replies.{outcome_line}

@@ -64,10 +64,3 @@ begun verdicts plan controls grabs values (q ∷ qs) f is =
     values_of : Option Forecast → Values
     values_of None = []
     values_of (Some g) = g.values
-
--- where there is no first frame, nothing is left
-pub begun_none : (verdicts : Verdicts) (plan : PlanData) (controls : List Control) (grabs : Grabs) (values : Values) (qs : List QueuedData) → None ≡ slice_get (forecasts verdicts plan controls values grabs qs) 0
-    → ◌≡◌ {A = BoardData} (rest_of (board_of verdicts plan controls values grabs qs)) (board_of verdicts plan controls values grabs (drop 1 qs))
-unfolding forecasts
-begun_none verdicts plan controls grabs values [] is = refl
-begun_none verdicts plan controls grabs values (q ∷ qs) is = cc

@@ -1,7 +1,7 @@
 -- A cluster of a frame gets the row of the values before it, member by member.
-use Rattle.std.proofs.Common.{◌≡◌, ◌∙◌, ◌<◌, ◌≤◌, ◌+◌, ◌&&◌, ℕ, zero, suc, nat_eq, Bool, true, false, not, cond, List, [], length, drop, get_or, Result, Ok, is_err, slice_set, refl, sym, ap, subst, arith, get_or-set_same, get_or-set_other}
+use Rattle.std.proofs.Common.{◌≡◌, ◌∙◌, ◌<◌, ◌≤◌, ◌+◌, ◌&&◌, ℕ, zero, suc, nat_eq, Bool, true, false, not, cond, List, length, drop, get_or, Result, Ok, is_err, slice_set, refl, sym, ap, subst, arith, get_or-set_same, get_or-set_other}
 use Rattle.std.specs.List.{list_any}
-use Rattle.std.proofs.lemmas.List.{drop_more, get_or_read_under, length-map, length-set, set-get_or, set-set}
+use Rattle.std.proofs.lemmas.List.{drop_more, get_or_read_under, length-map, length-set, set-set}
 use Rattle.ctrl_types.specs.Values.{is_same}
 use Rattle.ctrl_types.specs.declared.errno.Errno.{Errno}
 use Rattle.ctrl_types.specs.declared.ids.Pair.{Pair}
@@ -34,10 +34,6 @@ with_members frame cs before = record frame { values = with_row frame.values cs 
 -- frames where some members of the one at a place have the values before it
 abbrev pub copied : Values → ℕ → List ℕ → List FrameData → List FrameData
 copied values p cs fs = slice_set fs p (with_members (frame_at fs p) cs (values_before values fs p))
-
--- no member is copied
-pub copied_none : (values : Values) (p : ℕ) (fs : List FrameData) → copied values p [] fs ≡ fs
-copied_none values p fs = set-get_or fs p no_frame
 
 -- a frame with one member's value before it
 abbrev pub one_copied : Values → ℕ → ℕ → List FrameData → FrameData

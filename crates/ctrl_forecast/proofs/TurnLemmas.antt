@@ -12,7 +12,7 @@ use Rattle.ctrl_handlers.specs.Plan.{PlanData, IsPlan, IsFinished, members}
 use Rattle.ctrl_clusters.specs.Rows.{Values, row_of, Grabs}
 use Rattle.ctrl_forecast.specs.Forecasts.{QueuedData, forecasts}
 use Rattle.ctrl_forecast.specs.Boards.{BoardData, DifferOnlyIn, ValuesDifferOnlyIn, asked_at, board_of}
-use Rattle.ctrl_forecast.specs.Frames.{FrameData, no_frame, frame_at, queued_of, forecast_of, board_seen, Setting, setting, values_before, AreKeptFrames, IsRightAt, AreReady, AreReadyAt, IsAlikeIn, AreRenewed, IsClusterRenewed}
+use Rattle.ctrl_forecast.specs.Frames.{FrameData, no_frame, frame_at, queued_of, forecast_of, board_seen, Setting, setting, values_before, IsRightAt, AreReady, AreReadyAt, IsAlikeIn, AreRenewed, IsClusterRenewed}
 use Rattle.ctrl_forecast.proofs.RightLemmas.{right_moves}
 use Rattle.ctrl_forecast.proofs.RenewLemmas.{ranges_agree, grabs_agree}
 use Rattle.ctrl_forecast.proofs.AskingLemmas.{kept_asked}
@@ -43,13 +43,6 @@ still_ready s place left done old fs ready so_far k i lt other less = by (cases_
     by : (list_any (nat_eq k) done ≡ true) ⊎ (list_any (nat_eq k) done ≡ false) → IsRightAt s fs k i
     by (inl among) = so_far.right k i lt among less
     by (inr apart) = alike_right s k i old fs so_far.queued (so_far.stay k lt apart) less (ready.elsewhere k i lt other (omega (arith, less, as_many old fs so_far.queued)))
-
--- nothing is renewed yet
-pub turns_none : (s : Setting) (fs : List FrameData) → AreKeptFrames s.plan fs → AreRenewed s [] fs fs
-turns_none s fs are = record { frames_ok = are; queued = refl; right = λ k i lt among less. absurd (clash among); stay = λ k lt apart. record { rows = λ i. refl; refused = λ i. refl } }
-  where
-    clash : false ≡ true → ⊥
-    clash h = cc
 
 -- one cluster more is
 pub turns_next : (s : Setting) (k : ℕ) (done : List ℕ) (old fs gs : List FrameData) → AreRenewed s done old fs → IsClusterRenewed s k (length gs) fs gs

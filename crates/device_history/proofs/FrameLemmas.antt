@@ -25,8 +25,7 @@ use Rattle.device_history.specs.Requests.{made, ever_made, state, last_state_lef
 use Rattle.device_history.specs.Frames.{all_but, queue, queue_after, last_begun, running, running_after, unless_equal, first_of}
 use Rattle.device_history.specs.Values.{now}
 use Rattle.device_history.specs.Snapshots.{request_in, request, requests, frames, begun_pairs}
-use Rattle.device_history.specs.FrameSteps.{frames_after, FitsFrames}
-use Rattle.device_history.specs.FrameSteps.{request_after, changed_if_named}
+use Rattle.device_history.specs.FrameSteps.{frames_after, FitsFrames, request_after, changed_if_named}
 use Rattle.device_history.proofs.AllFit.{AllFit}
 use Rattle.device_history.proofs.RequestLemmas.{request_more}
 use Rattle.device_history.proofs.MadeLemmas.{AreNamed, made_once, next_not_made, find_listed, same_listed, same_but, all_changed, changed_listed, freed_listed, whole}

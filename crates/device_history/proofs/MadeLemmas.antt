@@ -1,5 +1,5 @@
 -- Requests as a list: the numbers of those that were ever made, and what a change of one, or of all, makes of those that are there.
-use Rattle.std.proofs.Common.{◌≡◌, ℕ, ◌<◌, ◌≤◌, ◌∙◌, ◌||◌, Bool, true, false, cond, inl, inr, List, [], ◌∷◌, ◌++◌, length, map, filter_map, Option, None, Some, nat_eq, nat_le, refl, sym, ap, arith}
+use Rattle.std.proofs.Common.{◌≡◌, ℕ, ◌≤◌, ◌∙◌, ◌||◌, Bool, true, false, cond, inl, inr, List, [], ◌∷◌, ◌++◌, length, map, filter_map, Option, None, Some, nat_eq, refl, sym, ap, arith}
 use Rattle.std.specs.List.{list_any, cons_option}
 use Rattle.std.specs.Option.{option_map}
 use Rattle.std.proofs.lemmas.Bool.{or_from, or_parts}
@@ -31,17 +31,6 @@ not_made (e ∷ older) r le =
 -- the number of the next step is no request's yet
 pub next_not_made : (past : Past) → list_any (nat_eq (length past)) (ever_made past) ≡ false
 next_not_made past = not_made past (length past) (omega arith)
-
--- a request's number is that of a step that was made
-pub made_below : (past : Past) (r : ℕ) → list_any (nat_eq r) (ever_made past) ≡ true → r < length past
-made_below past r there = by (nat_le (length past) r) refl
-  where
-    clash : true ≡ false → r < length past
-    clash h = cc
-
-    by : (b : Bool) → nat_le (length past) r ≡ b → r < length past
-    by true is = clash (sym there ∙ not_made past r (grind (arith, nat_tests, is)))
-    by false is = grind (arith, nat_tests, is)
 
 -- a number behind others, of which it is none
 once_last : (ids : List ℕ) (id : ℕ) → AreOnce ids → list_any (nat_eq id) ids ≡ false → AreOnce (ids ++ id ∷ [])

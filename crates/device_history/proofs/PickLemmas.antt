@@ -17,7 +17,7 @@ use Rattle.ctrl_handlers.specs.Plan.{PlanData, control}
 use Rattle.device_history.specs.declared.ask.Step.{Step}
 use Rattle.device_history.specs.Steps.{Past}
 use Rattle.device_history.specs.Subscriptions.{subscribed}
-use Rattle.device_history.specs.Events.{changed, heard, hears, payload, raises, with_raises, from_of}
+use Rattle.device_history.specs.Events.{changed, heard, hears, payload, with_raises, from_of}
 use Rattle.device_history.specs.EventSteps.{raised_by}
 use Rattle.ctrl_raises.specs.Raises.{raised_all}
 

@@ -1,5 +1,5 @@
 -- The ranges of controls after a history: before the first entry, after one more, and that they are of the plan's controls.
-use Rattle.std.proofs.Common.{◌≡◌, ◌≢◌, ℕ, ◌<◌, Bool, true, false, List, [], ◌∷◌, ◌++◌, length, map, Option, None, Some, nat_eq, get_or, refl, ap, sym, subst, ◌∙◌, arith}
+use Rattle.std.proofs.Common.{◌≡◌, ◌≢◌, ℕ, ◌<◌, Bool, true, false, List, [], ◌∷◌, length, map, Option, None, Some, nat_eq, get_or, refl, ap, sym, subst, ◌∙◌, arith}
 use Rattle.std.specs.List.{range_with_len}
 use Rattle.std.specs.Map.{lookup}
 use Rattle.std.proofs.lemmas.Bool.Decides.{nat_tests}
@@ -7,7 +7,6 @@ use Rattle.std.proofs.lemmas.List.{ext_get_or, get_or-set_other, get_or-set_same
 use Rattle.std.proofs.lemmas.List.FromFn.{get_or-map-range_with_len, length-map-range_with_len}
 use Rattle.history.specs.declared.entry.Entry.{Entry}
 use Rattle.history.specs.Past.{past}
-use Rattle.history.proofs.Pasts.{past_add}
 use Rattle.ctrl_settle.specs.Control.{Control, with_range}
 use Rattle.ctrl_handlers.specs.Plan.{PlanData, control, control_in, no_control}
 use Rattle.ctrl_clusters.specs.Ranges.{modified}
@@ -15,7 +14,7 @@ use Rattle.ctrl_clusters.specs.Rows.{AreControlsOf}
 use Rattle.ctrl_clusters.proofs.RangeLemmas.{modified_stay}
 use Rattle.device_history.specs.declared.ask.Step.{Step}
 use Rattle.device_history.specs.declared.ask.Step.TheVariants as steps
-use Rattle.device_history.specs.Steps.{History, Past}
+use Rattle.device_history.specs.Steps.{Past}
 use Rattle.device_history.specs.Ranges.{RangeData, control_now, ranged, ranged_if_given, ranges_after, ranges_made, ranges_now}
 
 -- a control with the range that the first of some range changes gives it
@@ -84,9 +83,6 @@ ranges_more plan e older = by e.step refl
     by (steps.ModifyRange c low high apart default_value) is =
         rw is (one_ranged plan (ranges_made older) c (record { minimum = low; maximum = high; step = apart; default_value = default_value }))
     by _ is = rw is refl
-
-pub ranges_add : (plan : PlanData) (steps : History) (e : Entry Step) → ranges_now plan (past (steps ++ e ∷ [])) ≡ ranges_after e.step (ranges_now plan (past steps))
-ranges_add plan steps e = ap (ranges_now plan) (past_add steps e) ∙ ranges_more plan e (past steps)
 
 -- a step leaves them controls of their plan
 after_own : (plan : PlanData) (step : Step) (controls : List Control) → AreControlsOf plan controls → AreControlsOf plan (ranges_after step controls)

@@ -23,15 +23,9 @@ use Rattle.device_history.specs.Requests.{ended_state, state, is_there, state_af
 use Rattle.device_history.specs.Frames.{begun_by, ever_queued, queue, last_begun, if_running, running, first_of}
 use Rattle.device_history.specs.Values.{now}
 use Rattle.device_history.specs.Snapshots.{before_begin, applied_by_begin, completes, before_completion, request_in, request, requests}
-use Rattle.device_history.specs.FrameSteps.{FitsFrames}
+use Rattle.device_history.specs.FrameSteps.{FitsFrames, request_after}
 use Rattle.device_history.proofs.StateLemmas.{state_more, asked_more, buffer_more, asked_same}
-use Rattle.device_history.specs.FrameSteps.{request_after}
 use Rattle.device_history.proofs.AllFit.{AllFit}
-
--- there is no request without a state
-pub request_none : (verdicts : Verdicts) (plan : PlanData) (older : Past) (j : ℕ) → state older j ≡ None → request verdicts plan older j ≡ None
-unfolding request
-request_none verdicts plan older j none = rw none refl
 
 -- a request in a state
 pub request_some : (verdicts : Verdicts) (plan : PlanData) (older : Past) (j : ℕ) (s : RequestState) → state older j ≡ Some s → request verdicts plan older j ≡ Some (request_in verdicts plan older j s)

@@ -1,14 +1,14 @@
 -- A step that may follow a history fits the requests and the queue that the history makes.
-use Rattle.std.proofs.Common.{◌≡◌, ℕ, true, List, [], ◌∷◌, length, Option, None, Some, refl, ap, sym, ◌∙◌, subst}
+use Rattle.std.proofs.Common.{◌≡◌, ℕ, true, length, ap, sym, ◌∙◌, subst}
 use Rattle.history.specs.Past.{past}
 use Rattle.ctrl_calls.specs.Meanings.{Verdicts}
 use Rattle.ctrl_handlers.specs.Plan.{PlanData}
 use Rattle.req_book.specs.Requests.{find}
-use Rattle.frame_queue.specs.Frames.{FramesData, begin_check}
+use Rattle.frame_queue.specs.Frames.{FramesData}
 use Rattle.device_history.specs.declared.ask.Step.{Step}
 use Rattle.device_history.specs.declared.ask.Step.TheVariants as steps
-use Rattle.device_history.specs.Steps.{History, Past}
-use Rattle.device_history.specs.Frames.{queue, running, first_of}
+use Rattle.device_history.specs.Steps.{History}
+use Rattle.device_history.specs.Frames.{queue, running}
 use Rattle.device_history.specs.Snapshots.{frames, request, requests}
 use Rattle.device_history.specs.StepChecks.{HasItsTurn, request_refusal}
 use Rattle.device_history.specs.Legal.{IsLegal, MayFollow}
@@ -36,12 +36,3 @@ fits_in verdicts plan entries kept step own legal may leaves known =
     new : (step : Step) → IsNew (length entries) step kept.requests.all
     new steps.Alloc = found verdicts plan entries kept (length entries) own legal ∙ fresh_request verdicts plan entries legal
     new _ = tt
-
--- a frame can begin where none runs and one waits
-pub begin_passes : (verdicts : Verdicts) (plan : PlanData) (older : Past) (kept : FramesData) (r : ℕ) → kept ≡ frames verdicts plan older → running older ≡ None → first_of (queue older) ≡ Some r → begin_check kept ≡ None
-begin_passes verdicts plan older kept r own free first = ap begin_check own ∙ by (running older) (queue older) free first
-  where
-    by : (runs : Option ℕ) (waits : List ℕ) → runs ≡ None → first_of waits ≡ Some r → begin_check (record (frames verdicts plan older) { queue = waits; running = runs }) ≡ None
-    by None [] f h = cc
-    by None (k ∷ rest) f h = refl
-    by (Some k) waits f h = cc

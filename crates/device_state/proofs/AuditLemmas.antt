@@ -4,7 +4,7 @@ use Rattle.history.specs.Past.{past}
 use Rattle.ctrl_calls.specs.Meanings.{Verdicts}
 use Rattle.ctrl_clusters.specs.ControlsData.{ControlsData}
 use Rattle.ctrl_handlers.specs.Plan.{PlanData}
-use Rattle.device_history.specs.Steps.{History}
+use Rattle.device_history.specs.Steps.{History, Past}
 use Rattle.device_history.specs.Legal.{IsLegal}
 use Rattle.device_history.proofs.PastLemmas.{legal_front, legal_last}
 use Rattle.history_audit.specs.declared.fault.AuditFault.{AuditFault}
@@ -14,7 +14,6 @@ use Rattle.ctrl_clusters.specs.Rows.{Grabs, Values}
 use Rattle.req_book.specs.Alike.{compared}
 use Rattle.frame_queue.specs.Frames.{FramesData}
 use Rattle.frame_queue.specs.Like.{IsLike}
-use Rattle.device_history.specs.Steps.{Past}
 use Rattle.device_history.specs.Grabs.{grabbed}
 use Rattle.device_history.specs.Ranges.{ranges_now}
 use Rattle.device_history.specs.Snapshots.{frames}

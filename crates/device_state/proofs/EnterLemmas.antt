@@ -15,7 +15,7 @@ use Rattle.device_history.specs.declared.ask.Reply.{Reply}
 use Rattle.device_history.specs.declared.ask.Step.{Step}
 use Rattle.device_history.specs.declared.ask.Step.TheVariants as steps
 use Rattle.device_history.specs.Steps.{History, Past}
-use Rattle.device_history.specs.Refusals.{fault_of, refused, step_check}
+use Rattle.device_history.specs.Refusals.{refused, step_check}
 use Rattle.device_history.specs.Values.{now, values_after}
 use Rattle.device_history.specs.Words.{changes}
 use Rattle.device_history.specs.Forecasts.{queued_frames}
@@ -26,9 +26,8 @@ use Rattle.req_book.specs.Refusals as book
 use Rattle.req_book.specs.declared.state.RequestState.{RequestState}
 use Rattle.device_history.specs.declared.ask.Reply.TheVariants.{Controls}
 use Rattle.device_history.specs.Answers.{MayAnswer, step_of}
-use Rattle.device_history.specs.Legal.{MayFollow}
 use Rattle.device_history.proofs.FrameLaw.{found_request}
-use Rattle.ctrl_lists.specs.Touched.{with_calls}
+use Rattle.ctrl_lists.specs.Touched.{with_calls, TouchedData, touched, judged_count}
 use Rattle.device_state.specs.Device.{DeviceData, Handles, list_most, list_touches, may_ask, must_ask, with_step, step_changes}
 use Rattle.device_parts.specs.QueuedFrames.{asks_at_most}
 use Rattle.device_parts.specs.Leaving.{leaves_controls}
@@ -40,7 +39,6 @@ use Rattle.device_state.proofs.SettingLemmas.{store_adds}
 use Rattle.device_state.proofs.StepLemmas.{step_accepted, step_answered, step_passes, step_refused}
 use Rattle.device_state.specs.Setting.{CanBeSet, SetsList}
 use Rattle.device_history.specs.Lists.{list_pairs, meant, request_check, set_list_answer, which_or}
-use Rattle.ctrl_lists.specs.Touched.{TouchedData, touched, judged_count}
 use Rattle.ctrl_types.specs.Classes.{which_of}
 use Rattle.ctrl_types.specs.declared.ids.ExtControl.{ExtControl}
 use Rattle.ctrl_types.specs.declared.ids.FhId.{FhId}
@@ -62,12 +60,6 @@ entered_refused verdicts plan older words ask own check step reply is refuses = 
 pub entered_lacks : (verdicts : Verdicts) (plan : PlanData) (older : Past) (words : List ℕ) (ask : Ask) (own : Option Check) (step : Step) (reply : Reply)
     → AddsStep verdicts plan older words ask own step reply → step_check older own ≡ None → MayAnswer verdicts plan older words ask (refused MemoryRefused)
 entered_lacks verdicts plan older words ask own step reply is free = inr (is.lacks (step_accepted older own reply free), sym is.plain)
-
--- else its step may follow
-pub entered_follows : (verdicts : Verdicts) (plan : PlanData) (older : Past) (words : List ℕ) (ask : Ask) (own : Option Check) (step : Step) (reply : Reply)
-    → AddsStep verdicts plan older words ask own step reply → step_check older own ≡ None → MayFollow verdicts plan older step
-entered_follows verdicts plan older words ask own step reply is free =
-    (ask, ap fault_of (is.answers_alone ∙ step_answered older own reply free), is.adds (step_passes older own free).0)
 
 -- such a step changes no control
 left_unchanged : (verdicts : Verdicts) (plan : PlanData) (older : Past) (step : Step) (c : ℕ) → leaves_controls step ≡ true → step_changes verdicts plan older (Some step) c ≡ false

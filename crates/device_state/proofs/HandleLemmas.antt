@@ -21,7 +21,7 @@ use Rattle.device_history.specs.declared.ask.Reply.{Reply}
 use Rattle.device_history.specs.declared.ask.Reply.TheVariants.{Fh, Done, Controls}
 use Rattle.device_history.specs.declared.ask.Step.TheVariants.{OpenFh, CloseFh, Set, Grab}
 use Rattle.ctrl_handlers.specs.Plan.{PlanData, cluster_of, members}
-use Rattle.ctrl_lists.specs.Touched.{TouchedData, none_where, touched}
+use Rattle.ctrl_lists.specs.Touched.{TouchedData, none_where, touched, judged_count, with_calls}
 use Rattle.device_history.specs.Grabs.{grab_check}
 use Rattle.device_history.specs.Steps.{Past}
 use Rattle.device_history.specs.Values.{now}
@@ -39,7 +39,6 @@ use Rattle.device_state.specs.Device.{DeviceData, Handles, forecast_asks, cluste
 use Rattle.device_state.proofs.BoundLemmas.{forecasts_asked, set_opened}
 use Rattle.device_state.specs.Changed.{IsChangedBy, moves, values_then}
 use Rattle.device_state.specs.Setting.{CanBeSet, SetsAll}
-use Rattle.ctrl_lists.specs.Touched.{judged_count, with_calls}
 use Rattle.device_history.proofs.WordLemmas.{changed_row}
 use Rattle.device_state.proofs.SettingLemmas.{set_step}
 use Rattle.device_history.specs.Words.{changes, pairs_applied}

@@ -6,8 +6,7 @@ use Rattle.std.proofs.Math.Dec.{leb}
 use Rattle.std.proofs.lemmas.Bool.Decides.{eqb_tells, leb_tells, nat_tests}
 use Rattle.std.proofs.lemmas.List.{get_or-set_other, get_or_past}
 use Rattle.std.proofs.lemmas.List.Sums.{sum_by-cons}
-use Rattle.ctrl_types.specs.Values.{zero_value}
-use Rattle.ctrl_types.specs.Values.{is_same}
+use Rattle.ctrl_types.specs.Values.{zero_value, is_same}
 use Rattle.history.specs.Past.{past}
 use Rattle.ctrl_types.specs.Flags.{contains}
 use Rattle.ctrl_types.specs.declared.value.CtrlValue.{CtrlValue}

@@ -58,12 +58,6 @@ settable verdicts plan older fh which request list view touch plans opens read p
       follows = (asks.SetCtrls fh which request list, ap fault_of accepted, ap (λ (pairs : List Pair). Some (pairs_step (meant (which_or (which_of which)) request) fh pairs)) (sym it.own_pairs));
     }
 
--- a set of present values lays its pairs alone
-pub own_judged : (verdicts : Verdicts) (plan : PlanData) (older : Past) (fh : FhId) (which : ℕ) (request : Option RequestId) (touch : TouchedData) → CanBeSet verdicts plan older fh (meant (which_or (which_of which)) request) touch
-    → meant (which_or (which_of which)) request ≡ None → AreJudged verdicts plan (ranges_now plan older) (now verdicts plan older) touch.pairs touch.pairs touch.rows
-own_judged verdicts plan older fh which request touch sets current =
-    subst (λ (o : Option RequestId). AreJudged verdicts plan (ranges_now plan older) (now verdicts plan older) (earlier_pairs plan older o ++ touch.pairs) touch.pairs touch.rows) current sets.judged
-
 -- and its step is a set
 pub set_step : (request : Option RequestId) (fh : FhId) (pairs : List Pair) → request ≡ None → pairs_step request fh pairs ≡ Set fh pairs
 set_step None fh pairs h = refl

@@ -1,5 +1,5 @@
 -- What an ask and those behind it make together.
-use Rattle.std.proofs.Common.{◌≡◌, ℕ, Bool, true, false, ◌&&◌, if◌then◌else◌, List, [], map, Ok, Err, is_err, is_ok, refl, ap, sym, ◌∙◌}
+use Rattle.std.proofs.Common.{◌≡◌, ℕ, Bool, true, false, if◌then◌else◌, List, [], map, Ok, Err, is_err, is_ok, refl, ap, sym, ◌∙◌}
 use Rattle.std.specs.List.{list_any}
 use Rattle.history.specs.Past.{past}
 use Rattle.ctrl_calls.specs.Meanings.{Verdicts}

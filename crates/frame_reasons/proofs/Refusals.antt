@@ -1,6 +1,6 @@
 -- The reason of a cluster tells what its row is.
 use Rattle.std.proofs.Common.{◌≡◌, ◌<◌, ◌+◌, ℕ, true, false, Bool, ◌||◌, ◌&&◌, if◌then◌else◌, List, [], ◌∷◌, ◌++◌, length, take, drop, get_or, set, Option, None, Some, is_some, Result, Ok, Err, ap, refl, sym, ◌∙◌}
-use Rattle.std.proofs.lemmas.List.{append-nil, append_assoc, take_more_set, drop_more}
+use Rattle.std.proofs.lemmas.List.{append_assoc, take_more_set, drop_more}
 use Rattle.std.specs.Result.{result_map_both}
 use Rattle.ctrl_types.specs.Checks.{errno_of, with_errno}
 use Rattle.ctrl_types.specs.declared.check.Check.{Check}
@@ -114,13 +114,3 @@ pub taken_step : (controls : List Control) (values : Values) (pairs : List Pair)
 taken_step controls values pairs members row i c v within place is takes =
     rw (taken_next controls values pairs members i c within is, takes, take_more_set row i v place)
     (before_more (take i row) v (taken_row controls values pairs (drop (i + 1) members)))
-
--- the first that takes nothing
-pub taken_stop : (controls : List Control) (values : Values) (pairs : List Pair) (members : List ℕ) (row : List CtrlValue) (i c : ℕ) (reason : ClusterReason) → i < length members → get_or members i 0 ≡ c
-    → value_taken controls values pairs c ≡ Err reason
-    → before (take i row) (taken_row controls values pairs (drop i members)) ≡ Err reason
-taken_stop controls values pairs members row i c reason within is takes = rw (taken_next controls values pairs members i c within is, takes) refl
-
--- none is left
-pub taken_end : (vs : List CtrlValue) → before vs (Ok []) ≡ Ok vs
-taken_end vs = ap Ok (append-nil vs)

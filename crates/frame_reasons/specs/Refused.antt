@@ -1,11 +1,10 @@
 -- Why a cluster of a queued frame will be refused (of this project; what a cluster makes of a row is of the Linux driver API, "V4L2 Controls", "Control Clusters").
-use Rattle.std.specs.Prelude.{ℕ, zero, suc, Bool, ◌&&◌, if◌then◌else◌, nat_eq, List, [], ◌∷◌, Option, None, Some, unwrap_or, slice_get, Result, Ok, Err}
+use Rattle.std.specs.Prelude.{ℕ, zero, suc, ◌&&◌, if◌then◌else◌, nat_eq, List, [], ◌∷◌, Option, None, Some, unwrap_or, slice_get, Result, Ok, Err}
 use Rattle.std.specs.List.{list_any, find as first_that}
 use Rattle.std.specs.Option.{option_map}
 use Rattle.std.specs.Result.{result_map_both}
 use Rattle.ctrl_types.specs.Checks.{errno_of}
 use Rattle.ctrl_types.specs.Pairs.{last_value}
-use Rattle.ctrl_types.specs.declared.check.Check.{Check}
 use Rattle.ctrl_types.specs.declared.errno.Errno.{Errno}
 use Rattle.ctrl_types.specs.declared.errno.Errno.TheVariants.{EBUSY}
 use Rattle.ctrl_types.specs.declared.ids.Pair.{Pair}

@@ -23,8 +23,8 @@ use Rattle.device_history.specs.Handles.{handler_of, shown}
 use Rattle.device_history.specs.Frames.{first_of, queue, running}
 use Rattle.device_history.specs.Snapshots.{frames}
 use Rattle.device_history.specs.StepChecks.{step_refusal}
-use Rattle.device_history.specs.Answers.{refusal}
-use Rattle.device_history.specs.Asking.{ask_by}
+use Rattle.device_history.specs.Answers.{refusal, step_of}
+use Rattle.device_history.specs.Asking.{ask_by, free_id}
 use Rattle.device_history.specs.Legal.{MayFollow}
 use Rattle.device_history.proofs.FitLemmas.{fits}
 use Rattle.device_history.proofs.RequestLemmas.{first_queued}
@@ -35,8 +35,6 @@ use Rattle.std.specs.Option.{option_and_then, option_map}
 use Rattle.std.specs.Result.{result_err}
 use Rattle.ctrl_types.specs.declared.ids.FhId.{FhId}
 use Rattle.ctrl_handlers.specs.Visible.{find as find_shown}
-use Rattle.device_history.specs.Answers.{step_of}
-use Rattle.device_history.specs.Asking.{free_id}
 use Rattle.device_history.specs.EventAnswers.{first_control, first_event}
 use Rattle.device_history.specs.Events.{pending}
 use Rattle.device_history.specs.Lists.{handler_or}

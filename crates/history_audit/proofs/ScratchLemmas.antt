@@ -12,13 +12,12 @@ use Rattle.ctrl_calls.specs.Meanings.{Verdicts}
 use Rattle.ctrl_events.specs.Events.{EventsData, events_of}
 use Rattle.ctrl_events.proofs.KeptLemmas.{Tells}
 use Rattle.ctrl_handlers.specs.Plan.{PlanData}
-use Rattle.device_history.specs.Steps.{Past}
+use Rattle.device_history.specs.Steps.{Past, History}
 use Rattle.device_history.specs.Handles.{opened}
 use Rattle.device_history.specs.EventSteps.{AreEvents}
 use Rattle.history.specs.Past.{past}
 use Rattle.ctrl_types.specs.declared.flags.Flags.{Flags}
 use Rattle.ctrl_forecast.specs.declared.board.Forecast.{Forecast}
-use Rattle.device_history.specs.Steps.{History}
 use Rattle.device_history.specs.Forecasts.{forecast}
 use Rattle.device_history.proofs.ControlsLemmas.{ranges_of, values_of}
 use Rattle.device_parts.specs.State.{IsMade, StateData}

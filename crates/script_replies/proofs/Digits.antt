@@ -19,11 +19,6 @@ only k n rest e = ap (λ t. cond t (last_digit n ∷ rest) (last_digits k (n / 1
 further : (k n : ℕ) (rest : List ℕ) → (n / 16 ≡ 0 → ⊥) → last_digits (suc k) n rest ≡ last_digits k (n / 16) (last_digit n ∷ rest)
 further k n rest e = ap (λ t. cond t (last_digit n ∷ rest) (last_digits k (n / 16) (last_digit n ∷ rest))) (ne_eqb (n / 16) 0 e)
 
--- a number of one digit
-pub one_digit : (k n : ℕ) (rest : List ℕ) → 0 < k → n / 16 ≡ 0 → last_digits k n rest ≡ last_digit n ∷ rest
-one_digit zero n rest some e = absurd (omega arith)
-one_digit (suc k) n rest some e = only k n rest e
-
 -- before the last digit stand those of what is left
 pub further_digits : (k n : ℕ) (rest : List ℕ) → 0 < k → (n / 16 ≡ 0 → ⊥) → last_digits k n rest ≡ last_digits (k - 1) (n / 16) (last_digit n ∷ rest)
 further_digits zero n rest some e = absurd (omega arith)

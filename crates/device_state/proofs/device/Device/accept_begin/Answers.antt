@@ -8,7 +8,7 @@ use Rattle.ctrl_clusters.specs.Changes.{members_change}
 use Rattle.ctrl_clusters.specs.ControlsData.{ControlsData}
 use Rattle.ctrl_clusters.specs.Notified.{AreNotified, notified_count}
 use Rattle.ctrl_clusters.specs.Rows.{AreControlsOf, Values, row_of}
-use Rattle.ctrl_forecast.specs.Boards.{BoardData}
+use Rattle.ctrl_forecast.specs.Boards.{BoardData, named_clusters}
 use Rattle.device_history.specs.declared.ask.Reply.TheVariants.{Frame}
 use Rattle.device_history.specs.declared.ask.Step.{Step}
 use Rattle.device_history.specs.declared.ask.Step.TheVariants.{Begin}
@@ -16,17 +16,15 @@ use Rattle.device_history.specs.Snapshots.{begun_pairs, begun_values}
 use Rattle.device_history.specs.Values.{now}
 use Rattle.frame_queue.specs.Frames.{FramesData}
 use Rattle.device_history.specs.Frames.{first_of, queue}
-use Rattle.device_parts.proofs.CoverLemmas.{named_cover}
+use Rattle.device_parts.proofs.CoverLemmas.{named_cover, within_same}
 use Rattle.device_parts.proofs.MakesLemmas.{asked_made, begun_applied, begun_laid}
 use Rattle.device_state.proofs.BeginLemmas.{begin_answered, begin_follows, begin_reply, begun_board, begun_first, frames_queued, kept_begin, length_begun}
 use Rattle.ctrl_clusters.specs.Moments.{parts, parts_after}
-use Rattle.ctrl_forecast.specs.Boards.{named_clusters}
 use Rattle.ctrl_raises.specs.Within.{DifferWithin}
 use Rattle.device_history.specs.Requests.{asked}
 use Rattle.device_history.proofs.ControlsLemmas.{values_of}
 use Rattle.device_state.proofs.KeptLemmas.{ranges_kept, ready}
 use Rattle.device_state.proofs.WithinLemmas.{begun_within, first_named, unmoved}
-use Rattle.device_parts.proofs.CoverLemmas.{within_same}
 use Rattle.device_state.proofs.device.Device.accept_begin.Goals as goal
 
 -- the first that waits

@@ -1,8 +1,7 @@
 use Rattle.std.proofs.Common.{rules, to_z, of_z, w64, ℕ, not, List, [], ◌∷◌, ◌++◌, ◌≡◌, ◌<◌, length, get_or, slice_set, refl, sym, ap, subst, ◌∙◌, arith}
 use Rattle.std.proofs.lemmas.List.{length-set}
 use Rattle.std.proofs.lemmas.List.Elements.{All-cons}
-use Rattle.ctrl_types.specs.Values.{zero_value}
-use Rattle.ctrl_types.specs.Values.{is_same}
+use Rattle.ctrl_types.specs.Values.{zero_value, is_same}
 use Rattle.history.specs.declared.entry.Entry.{Entry}
 use Rattle.history.specs.Past.{past}
 use Rattle.ctrl_types.specs.declared.value.CtrlValue.{CtrlValue}
