@@ -14,36 +14,16 @@ use Rattle.device_parts.specs.Leaving.{leaves_controls}
 
 pub opened_controls_left : (n : ℕ) (step : Step) (handles : List (ℕ × ℕ)) → leaves_controls step ≡ true → opened_after n step handles ≡ handles
 opened_controls_left n (steps.OpenFh handler) handles leaves = cc
-opened_controls_left n (steps.CloseFh fh) handles leaves = cc
-opened_controls_left n (steps.Set fh pairs) handles leaves = cc
-opened_controls_left n (steps.Grab c on) handles leaves = cc
-opened_controls_left n (steps.ModifyRange c low high apart default_value) handles leaves = cc
-opened_controls_left n (steps.Begin r) handles leaves = cc
-opened_controls_left n _ handles leaves = refl
+opened_controls_left n _ handles leaves = cc
 
 pub controls_left : (verdicts : Verdicts) (plan : PlanData) (older : Past) (step : Step) (c : ControlsData) → leaves_controls step ≡ true → controls_after verdicts plan older step c ≡ c
 controls_left verdicts plan older (steps.OpenFh handler) c leaves = cc
-controls_left verdicts plan older (steps.CloseFh fh) c leaves = cc
-controls_left verdicts plan older (steps.Set fh pairs) c leaves = cc
-controls_left verdicts plan older (steps.Grab d on) c leaves = cc
-controls_left verdicts plan older (steps.ModifyRange d low high apart default_value) c leaves = cc
-controls_left verdicts plan older (steps.Begin r) c leaves = cc
-controls_left verdicts plan older _ c leaves = refl
+controls_left verdicts plan older _ c leaves = cc
 
 pub given_controls_left : (verdicts : Verdicts) (plan : PlanData) (older : Past) (step : Step) → leaves_controls step ≡ true → applied_by_step verdicts plan older step ≡ []
 given_controls_left verdicts plan older (steps.OpenFh handler) leaves = cc
-given_controls_left verdicts plan older (steps.CloseFh fh) leaves = cc
-given_controls_left verdicts plan older (steps.Set fh pairs) leaves = cc
-given_controls_left verdicts plan older (steps.Grab c on) leaves = cc
-given_controls_left verdicts plan older (steps.ModifyRange c low high apart default_value) leaves = cc
-given_controls_left verdicts plan older (steps.Begin r) leaves = cc
-given_controls_left verdicts plan older _ leaves = refl
+given_controls_left verdicts plan older _ leaves = cc
 
 pub acted_controls_left : (verdicts : Verdicts) (plan : PlanData) (older : Past) (step : Step) → leaves_controls step ≡ true → pairs_applied verdicts plan older step ≡ None
 acted_controls_left verdicts plan older (steps.OpenFh handler) leaves = cc
-acted_controls_left verdicts plan older (steps.CloseFh fh) leaves = cc
-acted_controls_left verdicts plan older (steps.Set fh pairs) leaves = cc
-acted_controls_left verdicts plan older (steps.Grab c on) leaves = cc
-acted_controls_left verdicts plan older (steps.ModifyRange c low high apart default_value) leaves = cc
-acted_controls_left verdicts plan older (steps.Begin r) leaves = cc
-acted_controls_left verdicts plan older _ leaves = refl
+acted_controls_left verdicts plan older _ leaves = cc
