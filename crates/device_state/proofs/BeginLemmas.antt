@@ -22,6 +22,7 @@ use Rattle.frame_queue.specs.Frames.{FramesData, begin_answer, buffer_number, ne
 use Rattle.device_history.specs.declared.ask.Ask.TheVariants as asks
 use Rattle.device_history.specs.declared.ask.Reply.{Reply}
 use Rattle.device_history.specs.declared.ask.Reply.TheVariants.{Frame}
+use Rattle.device_history.specs.declared.ask.Step.{Step}
 use Rattle.device_history.specs.declared.ask.Step.TheVariants.{Begin}
 use Rattle.device_history.specs.Steps.{History, Past}
 use Rattle.device_history.specs.Refusals.{fault_of, is_full, refused, stepped, stepped_with}
@@ -114,7 +115,7 @@ length_begun verdicts plan older r = length_overlay verdicts plan (ranges_now pl
 pub begun_first : (verdicts : Verdicts) (plan : PlanData) (older : Past) (r : ℕ) (row : Forecast) → running older ≡ None → first_of (queue older) ≡ Some r → slice_get (forecast verdicts plan older) 0 ≡ Some row
     → (row.values ≡ begun_values verdicts plan older r) × (row.refused ≡ begun_refused verdicts plan older r)
 begun_first verdicts plan older r row free first stood =
-    let is = begun_row verdicts plan older (record { 0 = r }) row (free, first) stood in
+    let is = begun_row verdicts plan older (record { 0 = r }) row (refl, (free, first)) stood in
     (ap (λ (f : Forecast). f.values) is, ap (λ (f : Forecast). f.refused) is)
 
 -- some number is the first of no empty list
