@@ -161,11 +161,27 @@ no_flags None id = refl
 
 pub too_many : (known : List ControlWord) (verb : Verb) (a b c d e f : List ℕ) (ws : List (List ℕ)) → is_short verb ≡ true
     → command_of known (Some verb) (a ∷ b ∷ c ∷ d ∷ e ∷ f ∷ ws) ≡ None
+too_many known verbs.Open a b c d e f ws h = refl
+too_many known verbs.Close a b c d e f ws h = refl
 too_many known verbs.Get a b c d e f ws h = cc
 too_many known verbs.Set a b c d e f ws h = cc
 too_many known verbs.Try a b c d e f ws h = cc
+too_many known verbs.Grab a b c d e f ws h = refl
+too_many known verbs.Range a b c d e f ws h = refl
+too_many known verbs.Query a b c d e f ws h = refl
+too_many known verbs.Next a b c d e f ws h = refl
+too_many known verbs.Menu a b c d e f ws h = refl
+too_many known verbs.Told a b c d e f ws h = refl
+too_many known verbs.Buffer a b c d e f ws h = refl
+too_many known (verbs.OfRequest verb) a b c d e f ws h = refl
+too_many known verbs.Row a b c d e f ws h = refl
+too_many known verbs.Begin a b c d e f ws h = refl
+too_many known verbs.Complete a b c d e f ws h = refl
+too_many known verbs.Off a b c d e f ws h = refl
 too_many known verbs.Subscribe a b c d e f ws h = no_flags (name_of a) (control_id known b)
-too_many known _ a b c d e f ws h = refl
+too_many known verbs.Unsubscribe a b c d e f ws h = refl
+too_many known verbs.Take a b c d e f ws h = refl
+too_many known verbs.Audit a b c d e f ws h = refl
 
 -- the same of words behind one another, five of which were seen
 pub five_and_more : (known : List ControlWord) (verb : Verb) (seen : List (List ℕ)) (w : List ℕ) (ws : List (List ℕ)) → is_short verb ≡ true → length seen ≡ 5
