@@ -41,18 +41,18 @@ size_of U8 = 1
 size_of _ = 4
 
 -- whether `struct v4l2_queryctrl` has bounds of such a control
-abbrev pub has_bounds : Kind → Bool
-has_bounds Integer64 = false
-has_bounds U8 = false
-has_bounds _ = true
+abbrev pub tells_bounds : Kind → Bool
+tells_bounds Integer64 = false
+tells_bounds U8 = false
+tells_bounds _ = true
 
 -- a distance of values, of which 32 bits are told as of every bound
 abbrev pub step_told : ℕ → ℤ
 step_told step = cast_signed w64 step
 
 -- the bounds in `struct v4l2_queryctrl`
-abbrev pub with_bounds : CtrlInfo → List ℕ → List ℕ
-with_bounds info bytes =
+abbrev pub bounds_put : CtrlInfo → List ℕ → List ℕ
+bounds_put info bytes =
     with_low query.DEFAULT_VALUE info.default_value
     (with_low query.STEP (step_told info.step)
     (with_low query.MAXIMUM info.maximum
@@ -60,7 +60,7 @@ with_bounds info bytes =
 
 -- with the bounds where they are told: a heading, a 64-bit number and an array have none there
 abbrev pub with_bounds_told : CtrlInfo → List ℕ → List ℕ
-with_bounds_told info bytes = if has_bounds info.kind && not (is_heading info.id info.flags) then with_bounds info bytes else bytes
+with_bounds_told info bytes = if tells_bounds info.kind && not (is_heading info.id info.flags) then bounds_put info bytes else bytes
 
 -- `struct v4l2_queryctrl` of a control with a name, without bounds
 abbrev pub queryctrl_named : CtrlInfo → List ℕ → List ℕ
@@ -106,18 +106,18 @@ abbrev pub query_ext_ctrl : CtrlInfo → List ℕ → List ℕ
 query_ext_ctrl info name = with_dimension info.kind info.elems (with_wide_bounds_told info (query_ext_ctrl_named info name))
 
 -- the name or the number of an item
-abbrev pub with_item : MenuItem → List ℕ → List ℕ
-with_item (Name name) bytes = with_name menu.NAME name bytes
-with_item (Number number) bytes = with_i64 menu.VALUE number bytes
+abbrev pub item_put : MenuItem → List ℕ → List ℕ
+item_put (Name name) bytes = with_name menu.NAME name bytes
+item_put (Number number) bytes = with_i64 menu.VALUE number bytes
 
 -- `struct v4l2_querymenu` with an item: the id and the index stay
 abbrev pub querymenu : MenuItem → List ℕ → List ℕ
-querymenu item asked = with_item item (with_part menu.NAME (zeros 36) asked)
+querymenu item asked = item_put item (with_part menu.NAME (zeros 36) asked)
 
 -- the value of an event, in as many bits as its control has
-abbrev pub with_value : Kind → ℤ → List ℕ → List ℕ
-with_value Integer64 value bytes = with_i64 (event.U + change.VALUE64) value bytes
-with_value _ value bytes = with_low (event.U + change.VALUE) value bytes
+abbrev pub value_put : Kind → ℤ → List ℕ → List ℕ
+value_put Integer64 value bytes = with_i64 (event.U + change.VALUE64) value bytes
+value_put _ value bytes = with_low (event.U + change.VALUE) value bytes
 
 -- the bounds in an event
 abbrev pub with_event_bounds : Event → List ℕ → List ℕ
@@ -136,7 +136,7 @@ abbrev pub with_change : Event → List ℕ → List ℕ
 with_change e bytes =
     with_event_bounds_told e
     (with_u32 (event.U + change.FLAGS) (flags_told e.kind e.flags)
-    (with_value e.kind e.value
+    (value_put e.kind e.value
     (with_u32 (event.U + change.TYPE) (type_told e.id e.flags e.kind)
     (with_u32 (event.U + change.CHANGES) e.changes.0 bytes))))
 

@@ -1,5 +1,5 @@
 ghost use Rattle.std.specs.Prelude.{◌≡◌, length};
-ghost use Rattle.call_structs.specs.Told.{event_told, flags_told, has_bounds, is_heading, query_ext_ctrl, query_ext_ctrl_named, queryctrl, queryctrl_named, querymenu, size_of, step_told, type_told, with_bounds, with_bounds_told, with_change, with_dimension, with_event_bounds, with_event_bounds_told, with_value, with_wide_bounds, with_wide_bounds_told};
+ghost use Rattle.call_structs.specs.Told.{event_told, flags_told, tells_bounds, is_heading, query_ext_ctrl, query_ext_ctrl_named, queryctrl, queryctrl_named, querymenu, size_of, step_told, type_told, bounds_put, with_bounds_told, with_change, with_dimension, with_event_bounds, with_event_bounds_told, value_put, with_wide_bounds, with_wide_bounds_told};
 ghost use Rattle.ioctl_bytes.specs.declared.layout.v4l2_queryctrl.TheConstants as query;
 ghost use Rattle.ioctl_bytes.specs.declared.layout.v4l2_query_ext_ctrl.TheConstants as ext;
 ghost use Rattle.ioctl_bytes.specs.declared.layout.v4l2_querymenu.TheConstants as menu;
@@ -53,7 +53,7 @@ fn size_of(kind: Kind) -> u32
 }
 
 fn has_bounds(kind: Kind) -> bool
-    ensures { result ≡ has_bounds kind }
+    ensures { result ≡ tells_bounds kind }
 {
     match kind {
         Kind::Integer64 | Kind::U8 => false,
@@ -113,7 +113,7 @@ fn put_bounds_told(bytes: &mut [u8], info: &CtrlInfo)
 
 fn put_bounds(bytes: &mut [u8], info: &CtrlInfo)
     requires { length bytes.old ≡ query.SIZE }
-    ensures told { bytes.new ≡ with_bounds info.now bytes.old }
+    ensures told { bytes.new ≡ bounds_put info.now bytes.old }
     ensures length { length bytes.new ≡ query.SIZE }
 {
     put_low(bytes, v4l2_queryctrl::MINIMUM, info.minimum);
@@ -284,7 +284,7 @@ fn put_event_bounds(bytes: &mut [u8], event: &Event)
 
 fn put_event_value(bytes: &mut [u8], kind: Kind, value: i64)
     requires { length bytes.old ≡ event_struct.SIZE }
-    ensures told { bytes.new ≡ with_value kind value bytes.old }
+    ensures told { bytes.new ≡ value_put kind value bytes.old }
     ensures length { length bytes.new ≡ event_struct.SIZE }
 {
     match kind {

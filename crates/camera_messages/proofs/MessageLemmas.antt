@@ -12,7 +12,7 @@ use Rattle.camera_messages.specs.declared.message.Message.TheVariants.{Call, Val
 use Rattle.ioctl_bytes.specs.Fields.{u32_in}
 use Rattle.camera_messages.specs.declared.message.Numbers.{Numbers}
 use Rattle.camera_messages.specs.Reading.{IsReadAs, message_by}
-use Rattle.camera_messages.specs.Messages.{Answers, IsAskedOrTold, IsTold, ask_of, last_handler}
+use Rattle.camera_messages.specs.Messages.{AnswersMessage, IsAskedOrTold, IsTold, ask_of, last_handler}
 use Rattle.camera_messages.specs.Replies.{ReplyData}
 
 -- the four numbers were read at their places
@@ -36,7 +36,7 @@ read_as bytes what a b c payload read long is0 is4 is8 is12 reads rest =
 -- it is no control call and doesn't begin the history anew
 pub answers_other : (old new : SessionData) (message : Message) (reply : ReplyData)
     → ((fh : FhId) (request : Option RequestId) (number : ℕ) (arg : Bor (List ℕ)) → message ≡ Call fh request number arg → ⊥) → message ≢ Renew
-    → IsAskedOrTold old message (ask_of (last_handler (plan_in old)) message) new reply → Answers old message new reply
+    → IsAskedOrTold old message (ask_of (last_handler (plan_in old)) message) new reply → AnswersMessage old message new reply
 answers_other old new (Call fh request number arg) reply call renew told = absurd (call fh request number arg refl)
 answers_other old new (Line line) reply call renew told = tt
 answers_other old new Renew reply call renew told = absurd (renew refl)

@@ -12,11 +12,11 @@ use Rattle.script_replies.specs.Replies.{outcome_line}
 use Rattle.script_replies.specs.declared.outcome.Outcome.{Outcome}
 use Rattle.script_replies.specs.declared.outcome.Outcome.TheVariants.{Finished, BadLine, TooLong, ReadFault, WriteFault, NoSecond, Memory}
 use Rattle.ctl_script.specs.Board.{HasBoard, IsSame, IsShown, queued_lines, board_lines}
-use Rattle.ctl_script.specs.Run.{GoesOn, HasEnded, Said}
+use Rattle.ctl_script.specs.Run.{GrowsFrom, HasEnded, Said}
 use Rattle.ctl_script.proofs.Runs.{onward}
 use Rattle.ctl_script.proofs.Saying.{ended_as, goes_ended, is_write, one_script}
 
-pub same_on : (old new : DeviceData) → IsSame old new → GoesOn old new
+pub same_on : (old new : DeviceData) → IsSame old new → GrowsFrom old new
 same_on old new same = record { plan = same.plan; steps = ([], same.steps ∙ sym (append-nil old.steps)) }
 
 finished_not_write : Finished ≡ WriteFault → ⊥
@@ -73,7 +73,7 @@ module _ (verdicts : Verdicts) (tells : Words) (known : List ControlWord) (unrea
       (said, inr (shown.0, shown.1, shown.2, shown_told verdicts shown.0.plan (past shown.0.steps) before between after outcome result same line shown.3))
 
   -- the device goes on, and there is no second script
-  pub goes_board : (outcome : Outcome) (line : List ℕ) (before after : Option (List ℕ)) → HasBoard verdicts tells known unread left old new outcome line before after → GoesOn old new
+  pub goes_board : (outcome : Outcome) (line : List ℕ) (before after : Option (List ℕ)) → HasBoard verdicts tells known unread left old new outcome line before after → GrowsFrom old new
   goes_board outcome line before after (said, inl kept) = goes_ended verdicts tells known unread left old new said outcome kept.1
   goes_board outcome line before after (said, inr shown) =
       onward old shown.0 new (goes_ended verdicts tells known unread left old shown.0 said Finished shown.1) (same_on shown.0 new shown.2)

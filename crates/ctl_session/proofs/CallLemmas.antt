@@ -17,7 +17,7 @@ use Rattle.call_structs.specs.declared.entries.Form.{Form}
 use Rattle.ctl_session.specs.Session.{Asked, SessionData, Stays, without_room}
 use Rattle.ctl_session.specs.Lists.{Wrong}
 use Rattle.ctl_session.specs.declared.list_calls.Access.{Access}
-use Rattle.ctl_session.specs.Calls.{AskedInTurn, Calls, EndedInTurn, Meaning, Told, asking, asking_list, last_errno, list_by, list_told, plan_in, refused, sized, unsubscribe_ask}
+use Rattle.ctl_session.specs.Calls.{AskedInTurn, Calls, EndedInTurn, Meaning, Told, asks_one, asking_list, last_errno, list_by, list_told, plan_in, refused, sized, unsubscribe_ask}
 use Rattle.ctl_session.specs.declared.calls.TheConstants.{CUT}
 
 -- an ask that the device handled
@@ -72,8 +72,8 @@ once verdicts old new ask (Ok reply) asked = (new, asked, refl)
 once verdicts old new ask (Err fault) asked = asked
 
 pub asks : (verdicts : Verdicts) (old new : SessionData) (ask : Ask) (answer : Answer) (tell : Answer → Told) (told : Told)
-    → Asked verdicts old new ask answer → told ≡ tell answer → Calls verdicts old (asking ask tell) new told
-asks verdicts old new ask answer tell told asked is = turns verdicts old new (asking ask tell) (answer ∷ []) told (once verdicts old new ask answer asked) is
+    → Asked verdicts old new ask answer → told ≡ tell answer → Calls verdicts old (asks_one ask tell) new told
+asks verdicts old new ask answer tell told asked is = turns verdicts old new (asks_one ask tell) (answer ∷ []) told (once verdicts old new ask answer asked) is
 
 pub asks_list : (verdicts : Verdicts) (old new : SessionData) (ask : Ask) (answer : Answer) (tell : Answer → Told) (told : Told)
     → Asked verdicts old new ask answer → told ≡ tell answer → Calls verdicts old (asking_list ask tell) new told
@@ -98,7 +98,7 @@ cut verdicts session size bytes meaning other =
 
 -- one ask that was made so
 pub asks_made : (verdicts : Verdicts) (old new : SessionData) (made ask : Ask) (answer : Answer) (tell : Answer → Told) (told : Told) → made ≡ ask
-    → Asked verdicts old new made answer → told ≡ tell answer → Calls verdicts old (asking ask tell) new told
+    → Asked verdicts old new made answer → told ≡ tell answer → Calls verdicts old (asks_one ask tell) new told
 asks_made verdicts old new made ask answer tell told is asked tells =
     asks verdicts old new ask answer tell told (subst (λ a. Asked verdicts old new a answer) is asked) tells
 

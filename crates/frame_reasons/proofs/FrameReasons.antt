@@ -31,7 +31,7 @@ use Rattle.req_book.specs.declared.state.RequestState.{RequestState}
 use Rattle.frame_reasons.specs.declared.refused.ClusterReason.{ClusterReason}
 use Rattle.history.specs.Past.{past}
 use Rattle.device_state.specs.Device.{DeviceData}
-use Rattle.frame_reasons.specs.Refused.{frame_reason, frames_in, reason_over, values_before}
+use Rattle.frame_reasons.specs.Refused.{frame_reason, frames_in, reason_over, values_before_place}
 
 -- each frame has as many values as the present ones
 pub rows_long : (verdicts : Verdicts) (plan : PlanData) (controls : List Control) (grabs : Grabs) (values : Values) (qs : List QueuedData) (i : ℕ) (row : Forecast)
@@ -100,6 +100,6 @@ unrefused verdicts device place k row stood none = rw (← stood, ← none) refl
 
 -- one that will be has the reason over the values before
 pub refused_is : (verdicts : Verdicts) (device : DeviceData) (place k : ℕ) (row : Forecast) (values : Values) (pairs : List Pair) (reason : ClusterReason) → Some row ≡ slice_get (frames_in verdicts device) place
-    → true ≡ list_any (λ j. nat_eq j k) row.refused → values ≡ values_before verdicts device place → pairs ≡ asked device.plan (past device.steps) row.request.0
+    → true ≡ list_any (λ j. nat_eq j k) row.refused → values ≡ values_before_place verdicts device place → pairs ≡ asked device.plan (past device.steps) row.request.0
     → reason ≡ reason_over device values pairs k → Some reason ≡ frame_reason verdicts device place k
 refused_is verdicts device place k row values pairs reason stood among before asks is = rw (← stood, ← among, ← before, ← asks) (ap Some is)

@@ -97,8 +97,8 @@ values_before_frame present rows zero = present
 values_before_frame present rows (suc last) = unwrap_or (option_map (λ row. row.values) (slice_get rows last)) present
 
 -- the values before the frame at a place of a device's queue
-abbrev pub values_before : Verdicts → DeviceData → ℕ → Values
-values_before verdicts device place = values_before_frame (now verdicts device.plan (past device.steps)) (frames_in verdicts device) place
+abbrev pub values_before_place : Verdicts → DeviceData → ℕ → Values
+values_before_place verdicts device place = values_before_frame (now verdicts device.plan (past device.steps)) (frames_in verdicts device) place
 
 -- why a cluster will be refused in a frame, where there is one and the cluster is among those that will be refused
 abbrev pub reason_in : DeviceData → Values → ℕ → Option Forecast → Option ClusterReason
@@ -108,4 +108,4 @@ reason_in device values k (Some row) =
 
 -- Why a cluster will be refused in the frame that is queued at a place; none where no frame is queued there, or it won't be refused.
 abbrev pub frame_reason : Verdicts → DeviceData → ℕ → ℕ → Option ClusterReason
-frame_reason verdicts device place k = reason_in device (values_before verdicts device place) k (slice_get (frames_in verdicts device) place)
+frame_reason verdicts device place k = reason_in device (values_before_place verdicts device place) k (slice_get (frames_in verdicts device) place)

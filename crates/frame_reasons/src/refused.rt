@@ -2,7 +2,7 @@
 
 ghost use Rattle.std.specs.Prelude.{◌≡◌, ◌<◌, ◌≤◌, length};
 ghost use Rattle.std.specs.List.{All};
-ghost use Rattle.frame_reasons.specs.Refused.{first_grabbed, frame_reason, grabs_in, ranges_in, reason_of_row, reason_over, value_taken, values_before, wanted};
+ghost use Rattle.frame_reasons.specs.Refused.{first_grabbed, frame_reason, grabs_in, ranges_in, reason_of_row, reason_over, value_taken, values_before_place, wanted};
 
 use ctrl_calls::{ClusterRow, Driver};
 use ctrl_clusters::is_among;
@@ -57,7 +57,7 @@ pub fn frame_reason<D: Driver>(
 
 // The values before the frame at a place of the queue.
 fn values_before<D: Driver>(device: &Device<D>, place: usize) -> &[CtrlValue]
-    ensures values { result.now ≡ values_before D.verdict device.now place }
+    ensures values { result.now ≡ values_before_place D.verdict device.now place }
     ensures long { length result.now ≡ length device.now.plan.controls }
 {
     let Some(last) = place.checked_sub(1) else {
