@@ -14,8 +14,9 @@ ghost use Rattle.device_state.specs.Runs.{Call, IsRun, entries_added};
 
 pub use device_history::laws::{
     added_raises, asked_pairs, closed_handles, deciding_asks, each_request, frames_as_forecast,
-    kept_events, kept_frames, legal_histories, open_handles, present_controls, present_flags, queued_requests, raised_events, refusals, request_buffers,
-    request_states, subscriptions, told_words, waiting_frames, whole_sets,
+    kept_events, kept_frames, legal_histories, open_handles, present_controls, present_flags,
+    queued_requests, raised_events, refusals, request_buffers, request_states, subscriptions,
+    told_words, waiting_frames, whole_sets,
 };
 
 /// Calls, each of which does what the contract of `handle` says, keep the plan; the last steps are the first ones, and behind them
