@@ -13,8 +13,8 @@ use Rattle.device_history.specs.Values.{now, now_after, pairs_asked}
 abbrev pub controls_now : Verdicts → PlanData → Past → ControlsData
 controls_now verdicts plan past = as_one (ranges_now plan past) (now verdicts plan past) (grabbed plan past)
 
--- What a step that follows a history makes of them, as the law `present_controls` says: a range change gives one control another range and settles its value, a set and a
--- begin lay pairs over the values, a grab holds a control or lets it go; every other step leaves them.
+-- What a step that follows a history makes of them, as the law `present_controls` says: a range change gives one control another range, and its value is settled by it or
+-- is the new default; a set and a begin lay pairs over the values; a grab holds a control or lets it go; every other step leaves them.
 abbrev pub controls_after : Verdicts → PlanData → Past → Step → ControlsData → ControlsData
-controls_after verdicts plan older step c =
-    as_one (ranges_after step c.ranges) (settled_after step c.ranges (now_after verdicts plan c (pairs_asked plan older step))) (grabbed_after step c.grabs)
+controls_after verdicts plan older step at =
+    as_one (ranges_after step at.ranges) (settled_after step at.ranges (now_after verdicts plan at (pairs_asked plan older step))) (grabbed_after step at.grabs)

@@ -35,19 +35,20 @@ waiting_after plan older (steps.Cancel r) frames = filter (λ q. not (nat_eq r.0
 waiting_after plan older steps.StreamOff frames = []
 waiting_after plan older _ frames = frames
 
--- What frames that wait will have: the first over the values of these controls, each other over what the one before leaves, all under their ranges and grabs.
+-- What queued frames will have: what the first asks for is laid over these values, what each other asks for over what the one before leaves, all under these ranges and
+-- grabs.
 abbrev pub forecasts_over : Verdicts → PlanData → ControlsData → List QueuedData → List Forecast
-forecasts_over verdicts plan c queued = forecasts verdicts plan c.ranges c.values c.grabs queued
+forecasts_over verdicts plan at queued = forecasts verdicts plan at.ranges at.values at.grabs queued
 
--- the same frames with that, as a board keeps them
+-- the queued frames with what they will have, as a board keeps them
 abbrev pub board_over : Verdicts → PlanData → ControlsData → List QueuedData → BoardData
-board_over verdicts plan c queued = board_of verdicts plan c.ranges c.values c.grabs queued
+board_over verdicts plan at queued = board_of verdicts plan at.ranges at.values at.grabs queued
 
 -- what the queued frames will have, over the present controls
 abbrev pub forecast : Verdicts → PlanData → Past → List Forecast
 forecast verdicts plan past = forecasts_over verdicts plan (controls_now verdicts plan past) (queued_frames plan past)
 
--- the queued frames with that
+-- these frames with that, over the present controls
 abbrev pub board : Verdicts → PlanData → Past → BoardData
 board verdicts plan past = board_over verdicts plan (controls_now verdicts plan past) (queued_frames plan past)
 

@@ -39,7 +39,7 @@ applied_by_step verdicts plan older _ = []
 abbrev pub frames_after : Verdicts → PlanData → Past → ℕ → Step → FramesData → FramesData
 frames_after verdicts plan older n step f = frames_changed (now verdicts plan older) (applied_by_step verdicts plan older step) n step f
 
--- What a step about requests that may follow a history finds: the requests don't refuse it, and it has its turn.
+-- What a step that may follow a history finds: the requests don't refuse it, and where it begins or ends a frame, it has its turn.
 abbrev pub FitsFrames : Verdicts → PlanData → Past → Step → Type 0
 FitsFrames verdicts plan older step = (request_refusal (requests verdicts plan older) (request verdicts plan older) step ≡ None) × HasItsTurn (queue older) (running older) step
 

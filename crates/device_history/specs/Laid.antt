@@ -11,12 +11,12 @@ use Rattle.ctrl_forecast.specs.Applied.{applied_pairs}
 
 -- the values then
 abbrev pub laid : Verdicts → PlanData → ControlsData → List Pair → Values
-laid verdicts plan c pairs = overlay verdicts plan c.ranges c.values c.grabs pairs
+laid verdicts plan at pairs = overlay verdicts plan at.ranges at.values at.grabs pairs
 
 -- the clusters that are refused
 abbrev pub refused_over : Verdicts → PlanData → ControlsData → List Pair → List ℕ
-refused_over verdicts plan c pairs = refused_clusters verdicts plan c.ranges c.values c.grabs pairs
+refused_over verdicts plan at pairs = refused_clusters verdicts plan at.ranges at.values at.grabs pairs
 
 -- what is applied of the pairs: those whose cluster isn't refused, each with its value afterwards
 abbrev pub applied_over : Verdicts → PlanData → ControlsData → List Pair → List Pair
-applied_over verdicts plan c pairs = applied_pairs plan (laid verdicts plan c pairs) (refused_over verdicts plan c pairs) pairs
+applied_over verdicts plan at pairs = applied_pairs plan (laid verdicts plan at pairs) (refused_over verdicts plan at pairs) pairs

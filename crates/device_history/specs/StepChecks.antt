@@ -17,7 +17,9 @@ use Rattle.device_history.specs.Frames.{first_of}
 use Rattle.device_history.specs.Snapshots.{request, requests, frames}
 use Rattle.device_history.specs.EventAnswers.{subscribe_check, first_event}
 
--- Why the requests refuse a step, where these are all of them and each is looked up so: its own request does, or no further one is made.
+-- Why the requests refuse a step; `all` are all that there are, and `find` looks one up by its id. A further one isn't made where there are as many as can be; any other
+-- step is refused by the state and the buffer of the request that it names, and a buffer also where another request holds its number. A begin and the end of a frame aren't
+-- refused here: see `HasItsTurn`.
 abbrev pub request_refusal : List RequestData → (ℕ → Option RequestData) → Step → Option Check
 request_refusal all find steps.Alloc = alloc_check all
 request_refusal all find (steps.Store r pairs) = store_check (find r.0)
@@ -28,13 +30,16 @@ request_refusal all find (steps.Reinit r) = clear_check (find r.0)
 request_refusal all find (steps.Free r) = clear_check (find r.0)
 request_refusal all find _ = None
 
--- Whose turn it is: a begin is of the first that waits, and none runs; an end is of the one that runs.
+-- A frame's step has its turn: a begin is of the request that was queued first, while none runs; the end of a frame is of the request that runs. No other step needs a
+-- turn.
 abbrev pub HasItsTurn : List ℕ → Option ℕ → Step → Type 0
 HasItsTurn queue running (steps.Begin r) = (running ≡ None) × (first_of queue ≡ Some r.0)
 HasItsTurn queue running (steps.Complete r) = running ≡ Some r.0
 HasItsTurn queue running _ = Unit {0}
 
--- The check that refuses a step after a history, but for the limit of steps, and but for what is judged of the pairs of a list.
+-- The check, after a history, by which an ask for this step would be refused, but for the limit of steps. Of a set it tells nothing, and of what is stored in a request
+-- only whether that request takes it: the other checks of a list stand in specs/Lists. It doesn't say whether a begin, the end of a frame, a take or a subscription names
+-- the request or the control that it would be.
 abbrev pub step_refusal : Verdicts → PlanData → Past → Step → Option Check
 step_refusal verdicts plan past (steps.OpenFh handler) = open_check plan past handler
 step_refusal verdicts plan past (steps.CloseFh fh) = through past fh None

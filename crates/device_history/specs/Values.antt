@@ -24,10 +24,10 @@ pairs_asked plan older (steps.Set fh pairs) = Some pairs
 pairs_asked plan older (steps.Begin r) = Some (asked plan older r.0)
 pairs_asked plan older _ = None
 
--- the values of controls, once pairs were laid over them, where some are
+-- the values once a step's pairs were laid over them; where it lays none, the values as they are
 abbrev pub now_after : Verdicts → PlanData → ControlsData → Option (List Pair) → Values
-now_after verdicts plan c None = c.values
-now_after verdicts plan c (Some pairs) = laid verdicts plan c pairs
+now_after verdicts plan at None = at.values
+now_after verdicts plan at (Some pairs) = laid verdicts plan at pairs
 
 -- What a step that follows a history makes of the values: it lays pairs over them, or settles the value of a control whose range it changes.
 abbrev pub values_after : Verdicts → PlanData → Past → Step → Values → Values

@@ -29,8 +29,8 @@ abbrev pub IsNew : ℕ → Step → List RequestData → Type 0
 IsNew n steps.Alloc all = find all n ≡ None
 IsNew n _ all = Unit {0}
 
--- What lets such a step, with this number, change requests and a queue: a request that it makes is new, the controls that it names are there, the requests don't refuse
--- it, and it has its turn.
+-- What lets such a step, with this number, change requests and a queue: a request that it makes is new, the controls of which it stores values, or to which it
+-- subscribes, are there, the requests don't refuse it, and where it ends a frame, it has its turn.
 abbrev pub FitsIn : ℕ → Step → FramesData → Type 0
 FitsIn n step f =
     (leaves_controls step ≡ true) × IsNew n step f.requests.all × NamesKnown f.requests.controls step

@@ -21,8 +21,8 @@ lacks o = not (is_some o)
 abbrev pub shows_it : PlanData → Past → FhId → ℕ → Bool
 shows_it plan past fh c = is_number (shown plan past fh (control plan c).id) c
 
--- What a step names is what is found: a begin and an end are of the request whose turn it is, a control is shown to the file handle, and an event that is taken is the
--- first that waits.
+-- What a step names is what is found: a begin and an end are of the request whose turn it is, the control of a subscription, or of its end, is shown to the
+-- file handle, and an event that is taken is the first that waits.
 abbrev pub names_found : Verdicts → PlanData → Past → Step → Bool
 names_found verdicts plan past (steps.Begin r) = is_number (first_of (queue past)) r.0
 names_found verdicts plan past (steps.Complete r) = is_number (running past) r.0
