@@ -329,7 +329,7 @@ call_of verdicts session name fh request number bytes = call_by verdicts session
 
 -- Asks are asked one after another, until one is refused; each has its answer.
 abbrev pub AskedInTurn : Verdicts → SessionData → List Ask → List Answer → SessionData → Type 0
-AskedInTurn verdicts old [] [] new = Stays old new
+AskedInTurn verdicts old [] [] new = new ≡ old
 AskedInTurn verdicts old (ask ∷ rest) (Ok reply ∷ answers) new =
     (between : SessionData) × Asked verdicts old between ask (Ok reply) × AskedInTurn verdicts between rest answers new
 AskedInTurn verdicts old (ask ∷ rest) (Err fault ∷ []) new = Asked verdicts old new ask (Err fault)
@@ -340,8 +340,16 @@ abbrev pub EndedInTurn : Verdicts → SessionData → FhId → List ℕ → Sess
 EndedInTurn verdicts old fh controls new errno =
     (answers : List Answer) × AskedInTurn verdicts old (map (unsubscribe_ask (plan_in old) fh) controls) answers new × (errno ≡ last_errno answers)
 
--- What a call does: its asks are asked in turn, and it is told what their answers say; or there was no room for them, and nothing was asked.
+-- What a call does from a session on: its asks are asked in turn, and it is told what their answers say; or there was no room for them, and nothing was asked.
+abbrev pub CallsFrom : Verdicts → SessionData → Meaning → SessionData → Told → Type 0
+CallsFrom verdicts start meaning new told =
+    ((answers : List Answer) × AskedInTurn verdicts start meaning.asks answers new × (told ≡ meaning.told answers))
+    ⊎ ((new ≡ start) × (meaning.short ≡ Some told))
+
+-- What a call does: that, from the session as it is; or, where the session itself needs room for its asks, from one that was asked what would refuse them, which leaves other
+-- counts of its device's last call.
 abbrev pub Calls : Verdicts → SessionData → Meaning → SessionData → Told → Type 0
 Calls verdicts old meaning new told =
     ((answers : List Answer) × AskedInTurn verdicts old meaning.asks answers new × (told ≡ meaning.told answers))
-    ⊎ (Stays old new × (meaning.short ≡ Some told))
+    ⊎ ((new ≡ old) × (meaning.short ≡ Some told))
+    ⊎ ((start : SessionData) × Stays old start × (is_some meaning.short ≡ true) × CallsFrom verdicts start meaning new told)
