@@ -8,11 +8,11 @@ use Rattle.ctrl_types.specs.declared.ids.RequestId.{RequestId}
 use Rattle.ctl_session.specs.Calls.{plan_in}
 use Rattle.ctl_session.specs.Session.{SessionData}
 use Rattle.camera_messages.specs.declared.message.Message.{Message}
-use Rattle.camera_messages.specs.declared.message.Message.TheVariants.{Open, Close, Call, Alloc, Free, AddBuffer, Queue, Reinit, Begin, Complete, StreamOff, State, Forecast, Controls, Values, Waits, Line, Why, Renew, Counts, Events}
+use Rattle.camera_messages.specs.declared.message.Message.TheVariants.{Call, Values, Waits, Line, Renew, Counts, Events}
 use Rattle.ioctl_bytes.specs.Fields.{u32_in}
 use Rattle.camera_messages.specs.declared.message.Numbers.{Numbers}
 use Rattle.camera_messages.specs.Reading.{IsReadAs, message_by}
-use Rattle.camera_messages.specs.Messages.{Answers, IsAskedOrTold, IsTold, ask_of, last_handler}
+use Rattle.camera_messages.specs.Messages.{AnswersMessage, IsAskedOrTold, IsTold, ask_of, last_handler}
 use Rattle.camera_messages.specs.Replies.{ReplyData}
 
 -- the four numbers were read at their places
@@ -36,50 +36,17 @@ read_as bytes what a b c payload read long is0 is4 is8 is12 reads rest =
 -- it is no control call and doesn't begin the history anew
 pub answers_other : (old new : SessionData) (message : Message) (reply : ReplyData)
     → ((fh : FhId) (request : Option RequestId) (number : ℕ) (arg : Bor (List ℕ)) → message ≡ Call fh request number arg → ⊥) → message ≢ Renew
-    → IsAskedOrTold old message (ask_of (last_handler (plan_in old)) message) new reply → Answers old message new reply
-answers_other old new (Open handler) reply call renew told = told
-answers_other old new (Close fh) reply call renew told = told
+    → IsAskedOrTold old message (ask_of (last_handler (plan_in old)) message) new reply → AnswersMessage old message new reply
 answers_other old new (Call fh request number arg) reply call renew told = absurd (call fh request number arg refl)
-answers_other old new Alloc reply call renew told = told
-answers_other old new (Free request) reply call renew told = told
-answers_other old new (AddBuffer request buffer) reply call renew told = told
-answers_other old new (Queue request) reply call renew told = told
-answers_other old new (Reinit request) reply call renew told = told
-answers_other old new Begin reply call renew told = told
-answers_other old new Complete reply call renew told = told
-answers_other old new StreamOff reply call renew told = told
-answers_other old new (State request) reply call renew told = told
-answers_other old new (Forecast place) reply call renew told = told
-answers_other old new Controls reply call renew told = told
-answers_other old new Values reply call renew told = told
-answers_other old new (Waits fh) reply call renew told = told
 answers_other old new (Line line) reply call renew told = tt
-answers_other old new Why reply call renew told = told
 answers_other old new Renew reply call renew told = absurd (renew refl)
-answers_other old new Counts reply call renew told = told
-answers_other old new (Events fh) reply call renew told = told
+answers_other old new _ reply call renew told = told
 
 -- it reads neither the values, nor what waits, nor the counts, nor the events
 pub told_nothing : (session : SessionData) (message : Message) (reply : ReplyData) → message ≢ Values → ((fh : FhId) → message ≡ Waits fh → ⊥) → message ≢ Counts
     → ((fh : FhId) → message ≡ Events fh → ⊥) → IsTold session message reply
-told_nothing session (Open handler) reply values waits counts events = tt
-told_nothing session (Close fh) reply values waits counts events = tt
-told_nothing session (Call fh request number arg) reply values waits counts events = tt
-told_nothing session Alloc reply values waits counts events = tt
-told_nothing session (Free request) reply values waits counts events = tt
-told_nothing session (AddBuffer request buffer) reply values waits counts events = tt
-told_nothing session (Queue request) reply values waits counts events = tt
-told_nothing session (Reinit request) reply values waits counts events = tt
-told_nothing session Begin reply values waits counts events = tt
-told_nothing session Complete reply values waits counts events = tt
-told_nothing session StreamOff reply values waits counts events = tt
-told_nothing session (State request) reply values waits counts events = tt
-told_nothing session (Forecast place) reply values waits counts events = tt
-told_nothing session Controls reply values waits counts events = tt
 told_nothing session Values reply values waits counts events = absurd (values refl)
 told_nothing session (Waits fh) reply values waits counts events = absurd (waits fh refl)
-told_nothing session (Line line) reply values waits counts events = tt
-told_nothing session Why reply values waits counts events = tt
-told_nothing session Renew reply values waits counts events = tt
 told_nothing session Counts reply values waits counts events = absurd (counts refl)
 told_nothing session (Events fh) reply values waits counts events = absurd (events fh refl)
+told_nothing session _ reply values waits counts events = tt

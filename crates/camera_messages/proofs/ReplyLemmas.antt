@@ -7,7 +7,7 @@ use Rattle.std.proofs.lemmas.List.{append-nil, append_assoc, drop-append-le, dro
 use Rattle.byteorder.specs.Endian.{little_bytes}
 use Rattle.ioctl_bytes.specs.Fields.{with_u32}
 use Rattle.camera_messages.specs.declared.reply_buffer.Head.{Head}
-use Rattle.camera_messages.specs.Replies.{Puts, ReplyData, Says, bare, bytes_of, counted, front}
+use Rattle.camera_messages.specs.Replies.{Puts, ReplyData, Says, bare, bytes_of_reply, counted, front}
 
 -- a field behind those in front of it
 one_more : (at x : ℕ) (fields bytes : List ℕ) → length fields ≡ at → with_u32 at x (fields ++ drop at bytes) ≡ fields ++ little_bytes 4 x ++ drop (at + 4) bytes
@@ -43,7 +43,7 @@ written n k bytes part long all =
 
 -- a front with what stands behind it
 pub whole_front : (head : Head) (bytes : List ℕ) (whole : Bool) → 20 ≤ length bytes
-    → front (length bytes - 4) head ++ drop 20 bytes ≡ bytes_of (record { head = head; payload = drop 20 bytes; is_whole = whole })
+    → front (length bytes - 4) head ++ drop 20 bytes ≡ bytes_of_reply (record { head = head; payload = drop 20 bytes; is_whole = whole })
 whole_front head bytes whole long =
     let count : length bytes - 4 ≡ 16 + length (drop 20 bytes) = omega (arith, length-drop 20 bytes) in
     ap (λ n. front n head ++ drop 20 bytes) count

@@ -21,7 +21,7 @@ use Rattle.device_history.specs.Handles.{opened}
 use Rattle.device_history.specs.Values.{now}
 use Rattle.device_renewal.specs.Alike.{StandAlike}
 use Rattle.device_renewal.specs.Quiet.{IsQuiet}
-use Rattle.ctl_session.specs.Calls.{Calls, call_of, plan_in, subscriptions}
+use Rattle.ctl_session.specs.Calls.{Calls, call_of, plan_in, subscribed_controls}
 use Rattle.ctl_session.specs.Session.{Asked, SessionData}
 use Rattle.camera_messages.specs.declared.message.Message.{Message}
 use Rattle.camera_messages.specs.declared.message.Message.TheVariants as messages
@@ -65,18 +65,18 @@ head_of_reply (replies.Forecast row) = accepted row.request.0 row.buffer (counte
 head_of_reply _ = accepted 0 0 0
 
 -- the head of an answer, be it a reply or a fault
-abbrev pub head_of : Answer → Head
-head_of (Ok reply) = head_of_reply reply
-head_of (Err fault) = errno_alone (errno_number fault.errno)
+abbrev pub answer_head : Answer → Head
+answer_head (Ok reply) = head_of_reply reply
+answer_head (Err fault) = errno_alone (errno_number fault.errno)
 
 -- its payload: a forecast tells its values
-abbrev pub payload_of : Answer → List ℕ
-payload_of (Ok (replies.Forecast row)) = values_told row.values
-payload_of _ = []
+abbrev pub answer_payload : Answer → List ℕ
+answer_payload (Ok (replies.Forecast row)) = values_told row.values
+answer_payload _ = []
 
 -- The session is asked, and the reply says what it answered.
 abbrev pub IsAsked : SessionData → Ask → SessionData → ReplyData → Type 0
-IsAsked old ask new reply = (answer : Answer) × Asked data_verdict old new ask answer × Says reply (head_of answer) (payload_of answer)
+IsAsked old ask new reply = (answer : Answer) × Asked data_verdict old new ask answer × Says reply (answer_head answer) (answer_payload answer)
 
 -- A control call is made, and the reply has its errno and its struct; or there was no room for the struct, and it isn't made.
 abbrev pub IsCalled : SessionData → FhId → Option RequestId → ℕ → List ℕ → SessionData → ReplyData → Type 0
@@ -100,7 +100,7 @@ IsTold session (messages.Waits fh) reply =
 IsTold session messages.Counts reply =
     (reply.head.x ≡ counted (length session.device.steps)) × (reply.head.y ≡ counted (length (opened (past session.device.steps))))
 IsTold session (messages.Events fh) reply =
-    reply.head ≡ accepted (next_sequence data_verdict (plan_in session) (past session.device.steps) fh) (counted (length (subscriptions session.device fh))) 0
+    reply.head ≡ accepted (next_sequence data_verdict (plan_in session) (past session.device.steps) fh) (counted (length (subscribed_controls session.device fh))) 0
 IsTold session _ reply = Unit {0}
 
 -- An ask is asked; a message that is none leaves the session as it is, and is told what it reads.
@@ -109,8 +109,8 @@ IsAskedOrTold old message (Some ask) new reply = IsAsked old ask new reply
 IsAskedOrTold old message None new reply = (new ≡ old) × IsTold old message reply
 
 -- What a message does, and what its reply says; of a line of a script nothing is said here.
-abbrev pub Answers : SessionData → Message → SessionData → ReplyData → Type 0
-Answers old (messages.Call fh request number arg) new reply = IsCalled old fh request number arg.now new reply
-Answers old (messages.Line line) new reply = Unit {0}
-Answers old messages.Renew new reply = IsRenewed old new reply
-Answers old message new reply = IsAskedOrTold old message (ask_of (last_handler (plan_in old)) message) new reply
+abbrev pub AnswersMessage : SessionData → Message → SessionData → ReplyData → Type 0
+AnswersMessage old (messages.Call fh request number arg) new reply = IsCalled old fh request number arg.now new reply
+AnswersMessage old (messages.Line line) new reply = Unit {0}
+AnswersMessage old messages.Renew new reply = IsRenewed old new reply
+AnswersMessage old message new reply = IsAskedOrTold old message (ask_of (last_handler (plan_in old)) message) new reply

@@ -64,9 +64,9 @@ abbrev pub settled : ReplyData → ReplyData
 settled reply = if reply.is_whole then reply else bare (errno_number ENOMEM)
 
 -- the bytes of a reply: its front, and the payload
-abbrev pub bytes_of : ReplyData → List ℕ
-bytes_of reply = front (16 + length reply.payload) reply.head ++ reply.payload
+abbrev pub bytes_of_reply : ReplyData → List ℕ
+bytes_of_reply reply = front (16 + length reply.payload) reply.head ++ reply.payload
 
 -- The bytes that are answered.
 abbrev pub reply_bytes : ReplyData → List ℕ
-reply_bytes reply = bytes_of (settled reply)
+reply_bytes reply = bytes_of_reply (settled reply)

@@ -1,6 +1,6 @@
 ghost use Rattle.std.specs.Prelude.{◌≡◌};
 ghost use Rattle.ctl_session.specs.Calls.{plan_in};
-ghost use Rattle.camera_messages.specs.Messages.{Answers, IsAsked, IsAskedOrTold, IsCalled, IsRenewed, IsTold, ask_of, head_of, head_of_reply, last_handler, payload_of, state_number};
+ghost use Rattle.camera_messages.specs.Messages.{AnswersMessage, IsAsked, IsAskedOrTold, IsCalled, IsRenewed, IsTold, ask_of, answer_head, head_of_reply, last_handler, answer_payload, state_number};
 ghost use Rattle.camera_messages.specs.Replies.{Says, bare};
 
 use crate::camera::Camera;
@@ -18,7 +18,7 @@ impl Camera {
     ///
     /// - `reply`: becomes the reply, whatever it was.
     pub fn answer(&mut self, message: &Message<'_>, reply: &mut ReplyBuffer)
-        ensures { Answers self.old.session message.now self.new.session reply.new }
+        ensures { AnswersMessage self.old.session message.now self.new.session reply.new }
     {
         reply.begin();
         match message {
@@ -162,7 +162,7 @@ impl Camera {
 #[tactic(auto, using(crate::proofs::ReplyLemmas::puts_none, crate::proofs::ReplyLemmas::says))]
 fn put_answer(answer: &Result<Reply, Fault>, reply: &mut ReplyBuffer)
     requires { reply.old ≡ bare 0 }
-    ensures { Says reply.new (head_of answer.now) (payload_of answer.now) }
+    ensures { Says reply.new (answer_head answer.now) (answer_payload answer.now) }
 {
     reply.put_head(head_of(answer));
     match answer {
@@ -173,7 +173,7 @@ fn put_answer(answer: &Result<Reply, Fault>, reply: &mut ReplyBuffer)
 
 // What the reply to an ask says in front of its payload.
 fn head_of(answer: &Result<Reply, Fault>) -> Head
-    ensures { result ≡ head_of answer.now }
+    ensures { result ≡ answer_head answer.now }
 {
     match answer {
         Ok(reply) => head_of_reply(reply),

@@ -1,6 +1,6 @@
 ghost use Rattle.std.specs.Prelude.{◌≡◌};
 ghost use Rattle.std.specs.Option.{option_map};
-ghost use Rattle.camera_messages.specs.Reading.{IsReadAs, bare_message, message_by, named, request_of};
+ghost use Rattle.camera_messages.specs.Reading.{IsReadAs, bare_message, message_by, named, as_request};
 
 use ctrl_types::{FhId, RequestId};
 use ioctl_bytes::u32_at;
@@ -196,7 +196,7 @@ fn named(number: u32) -> Option<u32>
 }
 
 fn request_named(number: u32) -> Option<RequestId>
-    ensures { result ≡ option_map request_of (named number) }
+    ensures { result ≡ option_map as_request (named number) }
 {
     match named(number) {
         Some(request) => Some(RequestId(request)),

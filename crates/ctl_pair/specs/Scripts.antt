@@ -11,21 +11,21 @@ use Rattle.script_replies.specs.declared.outcome.Outcome.TheVariants.{BadLine, N
 use Rattle.ctl_script.specs.Lines.{lines_in}
 
 -- what a line that was read adds to a script: a command, or nothing where it is skipped; an audit is no command here
-abbrev pub read_as : Option (Option Command) → Option (List Command)
-read_as None = None
-read_as (Some None) = Some []
-read_as (Some (Some Audit)) = None
-read_as (Some (Some command)) = Some (command ∷ [])
+abbrev pub commands_read : Option (Option Command) → Option (List Command)
+commands_read None = None
+commands_read (Some None) = Some []
+commands_read (Some (Some Audit)) = None
+commands_read (Some (Some command)) = Some (command ∷ [])
 
 abbrev pub added_by : List ControlWord → List ℕ → Option (List Command)
-added_by known line = read_as (line_of known (words line))
+added_by known line = commands_read (line_of known (words line))
 
 -- what a line adds stands before what those behind it add to the same script; one that is no command is told by its number
-abbrev pub with_added : Bool → ℕ → Option (List Command) → Result (List Command × List Command) Outcome → Result (List Command × List Command) Outcome
-with_added is_second number None scripts = Err (BadLine number)
-with_added is_second number (Some commands) (Err outcome) = Err outcome
-with_added false number (Some commands) (Ok (first, second)) = Ok (commands ++ first, second)
-with_added true number (Some commands) (Ok (first, second)) = Ok (first, commands ++ second)
+abbrev pub with_commands : Bool → ℕ → Option (List Command) → Result (List Command × List Command) Outcome → Result (List Command × List Command) Outcome
+with_commands is_second number None scripts = Err (BadLine number)
+with_commands is_second number (Some commands) (Err outcome) = Err outcome
+with_commands false number (Some commands) (Ok (first, second)) = Ok (commands ++ first, second)
+with_commands true number (Some commands) (Ok (first, second)) = Ok (first, commands ++ second)
 
 -- The two scripts of lines that are numbered from this number on, where these words name controls: the first line that divides stands between them. It has come where `is_second`.
 abbrev pub scripts_in : List ControlWord → Bool → ℕ → List (List ℕ) → Result (List Command × List Command) Outcome
@@ -33,12 +33,12 @@ scripts_in known false number [] = Err NoSecond
 scripts_in known true number [] = Ok ([], [])
 scripts_in known is_second number (line ∷ lines) =
     if not is_second && divides (words line) then scripts_in known true (number + 1) lines
-    else with_added is_second number (added_by known line) (scripts_in known is_second (number + 1) lines)
+    else with_commands is_second number (added_by known line) (scripts_in known is_second (number + 1) lines)
 
 -- what was read of both scripts stands before the rest
-abbrev pub behind : List Command → List Command → Result (List Command × List Command) Outcome → Result (List Command × List Command) Outcome
-behind first second (Ok (more, others)) = Ok (first ++ more, second ++ others)
-behind first second (Err outcome) = Err outcome
+abbrev pub behind_both : List Command → List Command → Result (List Command × List Command) Outcome → Result (List Command × List Command) Outcome
+behind_both first second (Ok (more, others)) = Ok (first ++ more, second ++ others)
+behind_both first second (Err outcome) = Err outcome
 
 -- a script has what a line adds to it
 pub record HasAdded (known : List ControlWord) (line : List ℕ) (before after : List Command) : Type 0 where

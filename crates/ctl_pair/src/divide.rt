@@ -2,7 +2,7 @@
 ghost use Rattle.std.specs.Prelude.{◌≡◌, ℕ, ◌+◌, ◌≤◌, false, List, [], ◌∷◌, All, length, IfOk, IfErr, OnOk, Ok, Err, None};
 ghost use Rattle.script_replies.specs.declared.outcome.Outcome.TheVariants.{BadLine};
 ghost use Rattle.ctl_script.specs.Lines.{lines_in};
-ghost use Rattle.ctl_pair.specs.Scripts.{HasAdded, HasRead, IsAsk, IsRefused, IsUndivided, added_by, behind, scripts_in};
+ghost use Rattle.ctl_pair.specs.Scripts.{HasAdded, HasRead, IsAsk, IsRefused, IsUndivided, added_by, behind_both, scripts_in};
 
 use crate::client::ScriptClient;
 use ctl_script::{InputFault, first_line, read_input};
@@ -108,7 +108,7 @@ impl Scripts {
         line: &[u8],
     ) -> Result<(), LineFault>
         requires { length line.now ≤ 1048576 }
-        ensures added { OnOk result ((number : ℕ) (lines : List (List ℕ)) → behind self.old.first.items self.old.second.items (scripts_in known.now self.old.is_second number (line.now ∷ lines)) ≡ behind self.new.first.items self.new.second.items (scripts_in known.now self.new.is_second (number + 1) lines)) }
+        ensures added { OnOk result ((number : ℕ) (lines : List (List ℕ)) → behind_both self.old.first.items self.old.second.items (scripts_in known.now self.old.is_second number (line.now ∷ lines)) ≡ behind_both self.new.first.items self.new.second.items (scripts_in known.now self.new.is_second (number + 1) lines)) }
         ensures fault { result ≡ Err LineFault.NotACommand → (number : ℕ) (lines : List (List ℕ)) → scripts_in known.now self.old.is_second number (line.now ∷ lines) ≡ Err (BadLine number) }
     {
         if self.is_second {

@@ -1,25 +1,22 @@
 -- What a board does.
-use Rattle.std.proofs.Common.{◌≡◌, ◌≢◌, ℕ, ◌+◌, ◌≤◌, ◌⊎◌, Bool, true, false, not, cond, nat_eq, inl, inr, List, [], ◌∷◌, ◌++◌, length, filter, Option, None, Some, refl, sym, ◌∙◌, subst, arith, append-nil}
+use Rattle.std.proofs.Common.{◌≡◌, ◌≢◌, ℕ, ◌+◌, ◌⊎◌, inl, inr, List, [], ◌++◌, Option, refl, sym, ◌∙◌, subst, append-nil}
 use Rattle.std.specs.Io.KnownBytes.{Appends}
 use Rattle.std.proofs.KnownBytes.{Appends-nil, Appends-trans}
-use Rattle.std.proofs.lemmas.List.{length-append}
 use Rattle.history.specs.Past.{past}
 use Rattle.ctrl_calls.specs.Meanings.{Verdicts, Words}
 use Rattle.ctrl_handlers.specs.Plan.{PlanData}
-use Rattle.device_history.specs.Frames.{all_but, ever_queued, queue}
 use Rattle.device_history.specs.Steps.{Past}
-use Rattle.device_history.proofs.QueueingLemmas.{queued_by, with_last, ever_queued_start, ever_queued_more}
 use Rattle.device_state.specs.Device.{DeviceData}
 use Rattle.script_lines.specs.ControlWords.{ControlWord}
 use Rattle.script_replies.specs.Replies.{outcome_line}
 use Rattle.script_replies.specs.declared.outcome.Outcome.{Outcome}
 use Rattle.script_replies.specs.declared.outcome.Outcome.TheVariants.{Finished, BadLine, TooLong, ReadFault, WriteFault, NoSecond, Memory}
 use Rattle.ctl_script.specs.Board.{HasBoard, IsSame, IsShown, queued_lines, board_lines}
-use Rattle.ctl_script.specs.Run.{GoesOn, HasEnded, Said}
+use Rattle.ctl_script.specs.Run.{GrowsFrom, HasEnded, Said}
 use Rattle.ctl_script.proofs.Runs.{onward}
 use Rattle.ctl_script.proofs.Saying.{ended_as, goes_ended, is_write, one_script}
 
-pub same_on : (old new : DeviceData) → IsSame old new → GoesOn old new
+pub same_on : (old new : DeviceData) → IsSame old new → GrowsFrom old new
 same_on old new same = record { plan = same.plan; steps = ([], same.steps ∙ sym (append-nil old.steps)) }
 
 finished_not_write : Finished ≡ WriteFault → ⊥
@@ -76,7 +73,7 @@ module _ (verdicts : Verdicts) (tells : Words) (known : List ControlWord) (unrea
       (said, inr (shown.0, shown.1, shown.2, shown_told verdicts shown.0.plan (past shown.0.steps) before between after outcome result same line shown.3))
 
   -- the device goes on, and there is no second script
-  pub goes_board : (outcome : Outcome) (line : List ℕ) (before after : Option (List ℕ)) → HasBoard verdicts tells known unread left old new outcome line before after → GoesOn old new
+  pub goes_board : (outcome : Outcome) (line : List ℕ) (before after : Option (List ℕ)) → HasBoard verdicts tells known unread left old new outcome line before after → GrowsFrom old new
   goes_board outcome line before after (said, inl kept) = goes_ended verdicts tells known unread left old new said outcome kept.1
   goes_board outcome line before after (said, inr shown) =
       onward old shown.0 new (goes_ended verdicts tells known unread left old shown.0 said Finished shown.1) (same_on shown.0 new shown.2)

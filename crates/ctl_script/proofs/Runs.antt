@@ -9,23 +9,23 @@ use Rattle.ctrl_handlers.specs.Plan.{PlanData}
 use Rattle.device_history.specs.Steps.{History}
 use Rattle.history_audit.specs.Replay.{IsProgressOf, ProgressData}
 use Rattle.history_audit.proofs.MadeLemmas.{replay_longer}
-use Rattle.ctl_script.specs.Run.{GoesOn}
+use Rattle.ctl_script.specs.Run.{GrowsFrom}
 
-pub still : (d : DeviceData) → GoesOn d d
+pub still : (d : DeviceData) → GrowsFrom d d
 still d = record { plan = refl; steps = ([], grind (arith, common_steps)) }
 
-pub onward : (a b c : DeviceData) → GoesOn a b → GoesOn b c → GoesOn a c
+pub onward : (a b c : DeviceData) → GrowsFrom a b → GrowsFrom b c → GrowsFrom a c
 onward a b c first second = record {
   plan = second.plan ∙ first.plan;
   steps = (first.steps.0 ++ second.steps.0, rw (second.steps.1, first.steps.1, append_assoc) refl);
 }
 
 -- an ask that is answered
-pub handled : (verdicts : Verdicts) (old new : DeviceData) (seat : ℕ) (ask : Ask) (answer : Answer) → Handles verdicts old new seat ask answer → GoesOn old new
+pub handled : (verdicts : Verdicts) (old new : DeviceData) (seat : ℕ) (ask : Ask) (answer : Answer) → Handles verdicts old new seat ask answer → GrowsFrom old new
 handled verdicts old new seat ask answer h = record { plan = h.plan; steps = (_, h.steps) }
 
 -- what was replayed of a device's steps was replayed of those that it has then
-pub still_replayed : (verdicts : Verdicts) (old new : DeviceData) (made : Option ProgressData) → GoesOn old new → IfSome made (IsProgressOf verdicts old.plan old.steps) → IfSome made (IsProgressOf verdicts new.plan new.steps)
+pub still_replayed : (verdicts : Verdicts) (old new : DeviceData) (made : Option ProgressData) → GrowsFrom old new → IfSome made (IsProgressOf verdicts old.plan old.steps) → IfSome made (IsProgressOf verdicts new.plan new.steps)
 still_replayed verdicts old new None goes is = tt
 still_replayed verdicts old new (Some made) goes is =
     subst (λ (p : PlanData). IsProgressOf verdicts p new.steps made) (sym goes.plan)

@@ -12,14 +12,14 @@ use Rattle.script_lines.specs.declared.command.Command.{Command}
 use Rattle.script_replies.specs.Replies.{outcome_line}
 use Rattle.script_replies.specs.declared.outcome.Outcome.{Outcome}
 use Rattle.script_replies.specs.declared.outcome.Outcome.TheVariants.{Finished, BadLine, TooLong, ReadFault, WriteFault, NoSecond, Memory}
-use Rattle.ctl_script.specs.Asks.{bound_behind, bound_of}
+use Rattle.ctl_script.specs.Asks.{bound_behind, all_bound}
 use Rattle.ctl_script.specs.Bindings.{Bound, unbound}
-use Rattle.ctl_script.specs.Run.{GoesOn, Script, script_in, read_before, Said, answer_in, reply_line, reply_lines, IsSaid, AreSaid, IsLine, HasSaid, IsUnread, HasEnded, HasPrinted, HasScript}
+use Rattle.ctl_script.specs.Run.{GrowsFrom, Script, script_in, read_before, Said, answer_in, reply_line, reply_lines, IsSaid, AreSaid, IsLine, HasSaid, IsUnread, HasEnded, HasPrinted, HasScript}
 use Rattle.ctl_script.proofs.Runs.{still, onward, handled}
 
 -- what names stand for behind one command more
 pub bound_more : (bound : Bound) (done : List Command) (answers : List (Option Answer)) (command : Command) (answer : Option Answer) → length answers ≡ length done
-    → bound_of bound (done ++ command ∷ []) (answers ++ answer ∷ []) ≡ bound_behind command answer (bound_of bound done answers)
+    → all_bound bound (done ++ command ∷ []) (answers ++ answer ∷ []) ≡ bound_behind command answer (all_bound bound done answers)
 bound_more bound [] [] command answer each = refl
 bound_more bound [] (a ∷ others) command answer each = absurd (omega arith)
 bound_more bound (c ∷ cs) [] command answer each = absurd (omega arith)
@@ -73,7 +73,7 @@ module _ (verdicts : Verdicts) (tells : Words) (known : List ControlWord) where
 
   -- one command more
   said_more : (bound : Bound) (done : List Command) (said : List Said) (command : Command) (one : Said) (old mid new : DeviceData)
-      → Each bound done said old mid → IsSaid verdicts tells (bound_of bound done (answers_in said)) command one mid new → Each bound (done ++ command ∷ []) (said ++ one ∷ []) old new
+      → Each bound done said old mid → IsSaid verdicts tells (all_bound bound done (answers_in said)) command one mid new → Each bound (done ++ command ∷ []) (said ++ one ∷ []) old new
   said_more bound [] [] command one old mid new each is = (new, subst (λ d. IsSaid verdicts tells bound command one d new) each is, refl)
   said_more bound [] (s ∷ said) command one old mid new each is = absurd each
   said_more bound (c ∷ cs) [] command one old mid new each is = absurd each
@@ -81,20 +81,20 @@ module _ (verdicts : Verdicts) (tells : Words) (known : List ControlWord) where
       (each.0, each.1, said_more (bound_behind c (answer_in s) bound) cs said command one each.0 mid new each.2 is)
 
   -- the device goes on
-  goes_one : (bound : Bound) (command : Command) (one : Said) (old new : DeviceData) → IsSaid verdicts tells bound command one old new → GoesOn old new
+  goes_one : (bound : Bound) (command : Command) (one : Said) (old new : DeviceData) → IsSaid verdicts tells bound command one old new → GrowsFrom old new
   goes_one bound command (inl said) old new is = handled verdicts old new 0 said.0 said.1 is.1
-  goes_one bound command (inr audited) old new is = subst (GoesOn old) (sym is.1) (still old)
+  goes_one bound command (inr audited) old new is = subst (GrowsFrom old) (sym is.1) (still old)
 
-  goes_said : (bound : Bound) (done : List Command) (said : List Said) (old new : DeviceData) → Each bound done said old new → GoesOn old new
-  goes_said bound [] [] old new each = subst (GoesOn old) (sym each) (still old)
+  goes_said : (bound : Bound) (done : List Command) (said : List Said) (old new : DeviceData) → Each bound done said old new → GrowsFrom old new
+  goes_said bound [] [] old new each = subst (GrowsFrom old) (sym each) (still old)
   goes_said bound [] (one ∷ said) old new each = absurd each
   goes_said bound (c ∷ cs) [] old new each = absurd each
   goes_said bound (c ∷ cs) (one ∷ said) old new each =
       onward old each.0 new (goes_one bound c one old each.0 each.1) (goes_said (bound_behind c (answer_in one) bound) cs said each.0 new each.2)
 
-  pub goes_ended : (unread left : Option (List ℕ)) (old new : DeviceData) (said : List Said) (outcome : Outcome) → HasEnded verdicts tells known unread left old new said outcome → GoesOn old new
+  pub goes_ended : (unread left : Option (List ℕ)) (old new : DeviceData) (said : List Said) (outcome : Outcome) → HasEnded verdicts tells known unread left old new said outcome → GrowsFrom old new
   goes_ended unread left old new said outcome (inl ran) = goes_said unbound ran.2.asked said old new ran.2.each
-  goes_ended unread left old new said outcome (inr none) = subst (GoesOn old) (sym none.1) (still old)
+  goes_ended unread left old new said outcome (inr none) = subst (GrowsFrom old) (sym none.1) (still old)
 
   -- Of a script that is still read: what came of its first lines. The next has this number.
   pub record HasGone (lines rest : List (List ℕ)) (number : ℕ) (bound : Bound) (old new : DeviceData) (before after : Option (List ℕ)) : Type 0 where
@@ -102,7 +102,7 @@ module _ (verdicts : Verdicts) (tells : Words) (known : List ControlWord) where
     pub said : List Said
     pub split : script_in known 1 lines ≡ behind done (script_in known number rest)
     pub each : Each unbound done said old new
-    pub bound_is : bound ≡ bound_of unbound done (answers_in said)
+    pub bound_is : bound ≡ all_bound unbound done (answers_in said)
     pub printed : Appends before after (reply_lines said)
 
   -- at first nothing has come
@@ -131,7 +131,7 @@ module _ (verdicts : Verdicts) (tells : Words) (known : List ControlWord) where
         split = h.split ∙ ap (λ r. behind h.done (read_before number r (script_in known (number + 1) rest))) reads ∙ behind_one h.done command (script_in known (number + 1) rest);
         each = said_more unbound h.done h.said command one old mid new h.each (subst (λ b. IsSaid verdicts tells b command one mid new) h.bound_is is.1);
         bound_is = is.2 ∙ ap (bound_behind command (answer_in one)) h.bound_is
-            ∙ sym (bound_more unbound h.done (answers_in h.said) command (answer_in one) count) ∙ ap (bound_of unbound (h.done ++ command ∷ [])) (sym (map-append answer_in h.said (one ∷ [])));
+            ∙ sym (bound_more unbound h.done (answers_in h.said) command (answer_in one) count) ∙ ap (all_bound unbound (h.done ++ command ∷ [])) (sym (map-append answer_in h.said (one ∷ [])));
         printed = subst (Appends before after) (sym (lines_more h.said one)) (Appends-trans before between after (reply_lines h.said) (reply_line one) h.printed is.3);
       }
 

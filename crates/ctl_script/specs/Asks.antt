@@ -11,56 +11,56 @@ use Rattle.script_lines.specs.declared.command.Command.TheVariants as commands
 use Rattle.script_lines.specs.declared.command.WhichWord.{WhichWord}
 use Rattle.script_lines.specs.declared.command.WhichWord.TheVariants.{Number, Request}
 use Rattle.script_lines.specs.declared.name.Name.{Name}
-use Rattle.ctl_script.specs.Bindings.{Bound, binding_of, bound_by, unbound}
+use Rattle.ctl_script.specs.Bindings.{Bound, binding_of, answer_bound, unbound}
 
 -- the file handle and the request that a name stands for
-abbrev pub fh_of : Bound → Name → FhId
-fh_of bound name = record { 0 = bound.file_handles name }
+abbrev pub fh_bound : Bound → Name → FhId
+fh_bound bound name = record { 0 = bound.file_handles name }
 
-abbrev pub request_of : Bound → Name → RequestId
-request_of bound name = record { 0 = bound.requests name }
+abbrev pub request_bound : Bound → Name → RequestId
+request_bound bound name = record { 0 = bound.requests name }
 
 -- the number by which a list says which values it is about, and the request where it is about one's
-abbrev pub which_of : Bound → WhichWord → ℕ × Option RequestId
-which_of bound (Number number) = (number, None)
-which_of bound (Request name) = (0x0f010000, Some (request_of bound name))
+abbrev pub which_bound : Bound → WhichWord → ℕ × Option RequestId
+which_bound bound (Number number) = (number, None)
+which_bound bound (Request name) = (0x0f010000, Some (request_bound bound name))
 
 -- an ask about a list of controls
-abbrev pub list_ask : (FhId → ℕ → Option RequestId → List ExtControl → Ask) → Bound → Name → WhichWord → List ExtControl → Ask
-list_ask make bound fh which list = make (fh_of bound fh) (which_of bound which).0 (which_of bound which).1 list
+abbrev pub list_ask_by : (FhId → ℕ → Option RequestId → List ExtControl → Ask) → Bound → Name → WhichWord → List ExtControl → Ask
+list_ask_by make bound fh which list = make (fh_bound bound fh) (which_bound bound which).0 (which_bound bound which).1 list
 
 -- what a command asks while names stand for this; an audit asks nothing
 abbrev pub asked_by : Bound → Command → Option Ask
 asked_by bound (commands.Open fh handler) = Some (asks.OpenFh handler)
-asked_by bound (commands.Close fh) = Some (asks.CloseFh (fh_of bound fh))
-asked_by bound (commands.Get fh which list) = Some (list_ask asks.GetCtrls bound fh which list)
-asked_by bound (commands.Set fh which list) = Some (list_ask asks.SetCtrls bound fh which list)
-asked_by bound (commands.Try fh which list) = Some (list_ask asks.TryCtrls bound fh which list)
+asked_by bound (commands.Close fh) = Some (asks.CloseFh (fh_bound bound fh))
+asked_by bound (commands.Get fh which list) = Some (list_ask_by asks.GetCtrls bound fh which list)
+asked_by bound (commands.Set fh which list) = Some (list_ask_by asks.SetCtrls bound fh which list)
+asked_by bound (commands.Try fh which list) = Some (list_ask_by asks.TryCtrls bound fh which list)
 asked_by bound (commands.Grab control on) = Some (asks.Grab control on)
 asked_by bound (commands.Range control min max step default_value) = Some (asks.ModifyRange control min max step default_value)
-asked_by bound (commands.Query fh id) = Some (asks.Query (fh_of bound fh) id)
-asked_by bound (commands.Next fh id) = Some (asks.NextId (fh_of bound fh) id)
-asked_by bound (commands.Menu fh id index) = Some (asks.MenuItem (fh_of bound fh) id index)
+asked_by bound (commands.Query fh id) = Some (asks.Query (fh_bound bound fh) id)
+asked_by bound (commands.Next fh id) = Some (asks.NextId (fh_bound bound fh) id)
+asked_by bound (commands.Menu fh id index) = Some (asks.MenuItem (fh_bound bound fh) id index)
 asked_by bound (commands.Told cluster) = Some (asks.Told cluster)
 asked_by bound (commands.Alloc request) = Some asks.Alloc
-asked_by bound (commands.Buffer request buffer) = Some (asks.AddBuffer (request_of bound request) buffer)
-asked_by bound (commands.Queue request) = Some (asks.Queue (request_of bound request))
-asked_by bound (commands.Cancel request) = Some (asks.Cancel (request_of bound request))
-asked_by bound (commands.Reinit request) = Some (asks.Reinit (request_of bound request))
-asked_by bound (commands.Free request) = Some (asks.Free (request_of bound request))
-asked_by bound (commands.State request) = Some (asks.StateOf (request_of bound request))
+asked_by bound (commands.Buffer request buffer) = Some (asks.AddBuffer (request_bound bound request) buffer)
+asked_by bound (commands.Queue request) = Some (asks.Queue (request_bound bound request))
+asked_by bound (commands.Cancel request) = Some (asks.Cancel (request_bound bound request))
+asked_by bound (commands.Reinit request) = Some (asks.Reinit (request_bound bound request))
+asked_by bound (commands.Free request) = Some (asks.Free (request_bound bound request))
+asked_by bound (commands.State request) = Some (asks.StateOf (request_bound bound request))
 asked_by bound (commands.Row place) = Some (asks.Forecast place)
 asked_by bound commands.Begin = Some asks.Begin
 asked_by bound commands.Complete = Some asks.Complete
 asked_by bound commands.Off = Some asks.StreamOff
-asked_by bound (commands.Subscribe fh id flags) = Some (asks.Subscribe (fh_of bound fh) id flags)
-asked_by bound (commands.Unsubscribe fh id) = Some (asks.Unsubscribe (fh_of bound fh) id)
-asked_by bound (commands.Take fh) = Some (asks.Take (fh_of bound fh))
+asked_by bound (commands.Subscribe fh id flags) = Some (asks.Subscribe (fh_bound bound fh) id flags)
+asked_by bound (commands.Unsubscribe fh id) = Some (asks.Unsubscribe (fh_bound bound fh) id)
+asked_by bound (commands.Take fh) = Some (asks.Take (fh_bound bound fh))
 asked_by bound commands.Audit = None
 
 -- what names stand for behind a command; one that has no answer binds nothing
 abbrev pub bound_behind : Command → Option Answer → Bound → Bound
-bound_behind command (Some answer) bound = bound_by (binding_of command) answer bound
+bound_behind command (Some answer) bound = answer_bound (binding_of command) answer bound
 bound_behind command None bound = bound
 
 -- what the commands of a script ask where they are answered so: each by what names stand for behind those before it
@@ -70,10 +70,10 @@ asked_in bound [] answers = []
 asked_in bound (command ∷ commands) [] = []
 
 -- what names stand for behind these commands
-abbrev pub bound_of : Bound → List Command → List (Option Answer) → Bound
-bound_of bound (command ∷ commands) (answer ∷ answers) = bound_of (bound_behind command answer bound) commands answers
-bound_of bound [] answers = bound
-bound_of bound (command ∷ commands) [] = bound
+abbrev pub all_bound : Bound → List Command → List (Option Answer) → Bound
+all_bound bound (command ∷ commands) (answer ∷ answers) = all_bound (bound_behind command answer bound) commands answers
+all_bound bound [] answers = bound
+all_bound bound (command ∷ commands) [] = bound
 
 -- A transcript has each command of a script once, in order, asked with the ids that its names stood for then, by the answers that it has.
 pub record IsTranscript (script : List Command) (said : List (Ask × Option Answer)) : Type 0 where

@@ -27,31 +27,31 @@ pub record Bound : Type 0 where
 abbrev pub unbound : Bound
 unbound = record { file_handles = λ name. 4294967295; requests = λ name. 4294967295 }
 
-abbrev pub is_same : Name → Name → Bool
-is_same = (name_eq.ghosts).eq
+abbrev pub is_same_name : Name → Name → Bool
+is_same_name = (name_eq.ghosts).eq
 
 -- this name stands for this id, and any other for what it stood for
 abbrev pub with_id : Name → ℕ → (Name → ℕ) → Name → ℕ
-with_id bound id ids name = if is_same name bound then id else ids name
+with_id bound id ids name = if is_same_name name bound then id else ids name
 
 -- what names stand for once a command is answered: what an accepted one gives is bound, and else all stays
-abbrev pub bound_by : Binding → Answer → Bound → Bound
-bound_by (FileHandle name) (Ok (replies.Fh fh)) bound = record { file_handles = with_id name fh.0 bound.file_handles; requests = bound.requests }
-bound_by (Request name) (Ok (replies.Request request)) bound = record { file_handles = bound.file_handles; requests = with_id name request.0 bound.requests }
-bound_by _ _ bound = bound
+abbrev pub answer_bound : Binding → Answer → Bound → Bound
+answer_bound (FileHandle name) (Ok (replies.Fh fh)) bound = record { file_handles = with_id name fh.0 bound.file_handles; requests = bound.requests }
+answer_bound (Request name) (Ok (replies.Request request)) bound = record { file_handles = bound.file_handles; requests = with_id name request.0 bound.requests }
+answer_bound _ _ bound = bound
 
 -- a table has the name, and what the name stands for there
-abbrev pub has_name : Names → Name → Bool
-has_name names name = is_some (get is_same names.ids name)
+abbrev pub is_bound : Names → Name → Bool
+is_bound names name = is_some (get is_same_name names.ids name)
 
 abbrev pub ids_in : Names → Name → ℕ
-ids_in names name = unwrap_or (get is_same names.ids name) 4294967295
+ids_in names name = unwrap_or (get is_same_name names.ids name) 4294967295
 
 -- of both tables: there is room for the binding, and what all names stand for
 abbrev pub is_entered : Bindings → Binding → Bool
 is_entered names None = true
-is_entered names (FileHandle name) = has_name names.file_handles name
-is_entered names (Request name) = has_name names.requests name
+is_entered names (FileHandle name) = is_bound names.file_handles name
+is_entered names (Request name) = is_bound names.requests name
 
-abbrev pub bound_in : Bindings → Bound
-bound_in names = record { file_handles = ids_in names.file_handles; requests = ids_in names.requests }
+abbrev pub bound_names : Bindings → Bound
+bound_names names = record { file_handles = ids_in names.file_handles; requests = ids_in names.requests }

@@ -28,7 +28,7 @@ use Rattle.ctl_script.specs.declared.run.LineEnd.TheVariants.{NotACommand}
 use Rattle.ctl_script.specs.declared.run.LineEnd.TheVariants as ends
 
 -- The plan stays, and the steps begin with those that were there.
-pub record GoesOn (old new : DeviceData) : Type 0 where
+pub record GrowsFrom (old new : DeviceData) : Type 0 where
   pub plan : new.plan ≡ old.plan
   pub steps : (more : History) × (new.steps ≡ old.steps ++ more)
 

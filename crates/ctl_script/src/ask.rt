@@ -1,7 +1,7 @@
 ghost use Rattle.std.specs.Prelude.{◌≡◌};
 ghost use Rattle.device_history.specs.declared.ask.Ask.TheVariants as asks;
-ghost use Rattle.ctl_script.specs.Asks.{asked_by, list_ask, which_of};
-ghost use Rattle.ctl_script.specs.Bindings.{bound_in};
+ghost use Rattle.ctl_script.specs.Asks.{asked_by, list_ask_by, which_bound};
+ghost use Rattle.ctl_script.specs.Bindings.{bound_names};
 
 use crate::names::Bindings;
 use ctrl_types::RequestId;
@@ -13,7 +13,7 @@ const REQUEST_VALUES: u32 = 0x0f01_0000;
 
 /// What a command asks, with the ids that its names stand for; none where it is an audit.
 pub fn ask_of(command: Command, names: &Bindings) -> Option<Ask>
-    ensures { result ≡ asked_by (bound_in names.now) command }
+    ensures { result ≡ asked_by (bound_names names.now) command }
 {
     let ask = match command {
         Command::Open { fh: _, handler } => Ask::OpenFh { handler },
@@ -89,7 +89,7 @@ pub fn ask_of(command: Command, names: &Bindings) -> Option<Ask>
 }
 
 fn get_of(names: &Bindings, fh: Name, which: WhichWord, list: EntryList) -> Ask
-    ensures { result ≡ list_ask asks.GetCtrls (bound_in names.now) fh which list }
+    ensures { result ≡ list_ask_by asks.GetCtrls (bound_names names.now) fh which list }
 {
     let (which, request) = which_of(which, names);
     Ask::GetCtrls {
@@ -101,7 +101,7 @@ fn get_of(names: &Bindings, fh: Name, which: WhichWord, list: EntryList) -> Ask
 }
 
 fn set_of(names: &Bindings, fh: Name, which: WhichWord, list: EntryList) -> Ask
-    ensures { result ≡ list_ask asks.SetCtrls (bound_in names.now) fh which list }
+    ensures { result ≡ list_ask_by asks.SetCtrls (bound_names names.now) fh which list }
 {
     let (which, request) = which_of(which, names);
     Ask::SetCtrls {
@@ -113,7 +113,7 @@ fn set_of(names: &Bindings, fh: Name, which: WhichWord, list: EntryList) -> Ask
 }
 
 fn try_of(names: &Bindings, fh: Name, which: WhichWord, list: EntryList) -> Ask
-    ensures { result ≡ list_ask asks.TryCtrls (bound_in names.now) fh which list }
+    ensures { result ≡ list_ask_by asks.TryCtrls (bound_names names.now) fh which list }
 {
     let (which, request) = which_of(which, names);
     Ask::TryCtrls {
@@ -126,7 +126,7 @@ fn try_of(names: &Bindings, fh: Name, which: WhichWord, list: EntryList) -> Ask
 
 // The number by which a list says which values it is about, and the request where it is about one's.
 fn which_of(which: WhichWord, names: &Bindings) -> (u32, Option<RequestId>)
-    ensures { result ≡ which_of (bound_in names.now) which }
+    ensures { result ≡ which_bound (bound_names names.now) which }
 {
     match which {
         WhichWord::Number(number) => (number, None),

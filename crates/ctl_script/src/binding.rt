@@ -1,5 +1,5 @@
 ghost use Rattle.std.specs.Prelude.{◌≡◌, true, OnOk};
-ghost use Rattle.ctl_script.specs.Bindings.{binding_of, bound_by, bound_in, is_entered};
+ghost use Rattle.ctl_script.specs.Bindings.{binding_of, answer_bound, bound_names, is_entered};
 ghost use Rattle.ctl_script.specs.declared.binding.Binding.{Binding};
 
 use crate::names::Bindings;
@@ -33,7 +33,7 @@ impl Binding {
 
     /// Makes room for the binding, so that `bind` takes no memory.
     pub fn enter(self, names: &mut Bindings) -> Result<(), AllocError>
-        ensures bound { bound_in names.new ≡ bound_in names.old }
+        ensures bound { bound_names names.new ≡ bound_names names.old }
         ensures kept { (other : Binding) → is_entered names.old other ≡ true → is_entered names.new other ≡ true }
         ensures entered { OnOk result (is_entered names.new self ≡ true) }
     {
@@ -47,7 +47,7 @@ impl Binding {
     /// Binds what the answer gives, where room was made for it. A refused command binds nothing, and an earlier binding stays.
     pub fn bind(self, names: &mut Bindings, answer: &Result<Reply, Fault>)
         requires { is_entered names.old self ≡ true }
-        ensures bound { bound_in names.new ≡ bound_by self answer.now (bound_in names.old) }
+        ensures bound { bound_names names.new ≡ answer_bound self answer.now (bound_names names.old) }
         ensures kept { (other : Binding) → is_entered names.old other ≡ true → is_entered names.new other ≡ true }
     {
         match (self, answer) {

@@ -3,7 +3,7 @@ ghost use Rattle.std.specs.Io.KnownBytes.{Appends};
 ghost use Rattle.history.specs.Past.{past};
 ghost use Rattle.script_replies.specs.Replies.{outcome_line};
 ghost use Rattle.ctl_script.specs.Board.{HasBoard, IsSame, IsShown, IsUnshown, queued_line};
-ghost use Rattle.ctl_script.specs.Run.{GoesOn};
+ghost use Rattle.ctl_script.specs.Run.{GrowsFrom};
 
 use crate::run::{SEAT, read_and_answer, with_line, without_line};
 use ctrl_calls::Driver;
@@ -32,7 +32,7 @@ pub fn run_board<D: Driver, R: Read, W: Write>(
     writer: &mut W,
 ) -> (Device<D>, Outcome)
     ensures board { HasBoard D.verdict D.told known.now (R.remaining reader.old) (R.remaining reader.new) device result.0 result.1 (outcome_line result.1) (W.contents writer.old) (W.contents writer.new) }
-    ensures device { GoesOn device result.0 }
+    ensures device { GrowsFrom device result.0 }
     ensures one_script { result.1 ≢ Outcome.NoSecond }
 {
     let Ok(mut line) = ReplyLine::new(alloc) else {

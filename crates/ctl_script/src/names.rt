@@ -1,6 +1,6 @@
 ghost use Rattle.std.specs.Prelude.{◌≡◌, true, OnOk};
-ghost use Rattle.ctl_script.specs.Bindings.{Bound, unbound, with_id, has_name, ids_in, bound_in};
-ghost use Rattle.ctl_script.specs.Asks.{fh_of, request_of};
+ghost use Rattle.ctl_script.specs.Bindings.{Bound, unbound, with_id, is_bound, ids_in, bound_names};
+ghost use Rattle.ctl_script.specs.Asks.{fh_bound, request_bound};
 ghost use Rattle.script_lines.specs.declared.name.Name.{Name};
 
 use ctrl_types::{FhId, RequestId};
@@ -37,8 +37,8 @@ impl Names {
     /// Makes room for a binding of the name, and leaves what each name stands for.
     pub fn enter(&mut self, name: Name) -> Result<(), AllocError>
         ensures ids { (other : Name) → ids_in self.new other ≡ ids_in self.old other }
-        ensures kept { (other : Name) → has_name self.old other ≡ true → has_name self.new other ≡ true }
-        ensures entered { OnOk result (has_name self.new name ≡ true) }
+        ensures kept { (other : Name) → is_bound self.old other ≡ true → is_bound self.new other ≡ true }
+        ensures entered { OnOk result (is_bound self.new name ≡ true) }
     {
         if !self.ids.contains_key(&name) {
             self.ids.insert(name, UNBOUND)?;
@@ -48,9 +48,9 @@ impl Names {
 
     /// Binds a name that was entered to an id. It takes no memory.
     pub fn bind(&mut self, name: Name, id: u32)
-        requires { has_name self.old name ≡ true }
+        requires { is_bound self.old name ≡ true }
         ensures ids { (other : Name) → ids_in self.new other ≡ with_id name id (ids_in self.old) other }
-        ensures kept { (other : Name) → has_name self.old other ≡ true → has_name self.new other ≡ true }
+        ensures kept { (other : Name) → is_bound self.old other ≡ true → is_bound self.new other ≡ true }
     {
         // its key is there, so it takes no room
         let _ = self.ids.insert(name, id);
@@ -69,7 +69,7 @@ pub struct Bindings {
 impl Bindings {
     /// No name is bound.
     pub fn new(alloc: Global) -> Bindings
-        ensures { bound_in result ≡ unbound }
+        ensures { bound_names result ≡ unbound }
     {
         Bindings {
             file_handles: Names::new(alloc),
@@ -79,14 +79,14 @@ impl Bindings {
 
     /// The file handle that a name stands for.
     pub fn fh(&self, name: Name) -> FhId
-        ensures { result ≡ fh_of (bound_in self.now) name }
+        ensures { result ≡ fh_bound (bound_names self.now) name }
     {
         FhId(self.file_handles.id_of(name))
     }
 
     /// The request that a name stands for.
     pub fn request(&self, name: Name) -> RequestId
-        ensures { result ≡ request_of (bound_in self.now) name }
+        ensures { result ≡ request_bound (bound_names self.now) name }
     {
         RequestId(self.requests.id_of(name))
     }

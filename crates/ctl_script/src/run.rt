@@ -3,9 +3,9 @@ ghost use Rattle.std.specs.Io.KnownBytes.{Appends};
 ghost use Rattle.history_audit.specs.Replay.{IsProgressOf};
 ghost use Rattle.script_lines.specs.Commands.{words, line_of};
 ghost use Rattle.script_replies.specs.Replies.{outcome_line};
-ghost use Rattle.ctl_script.specs.Bindings.{bound_in};
+ghost use Rattle.ctl_script.specs.Bindings.{bound_names};
 ghost use Rattle.ctl_script.specs.Lines.{lines_in, lines_behind};
-ghost use Rattle.ctl_script.specs.Run.{GoesOn, HasPrinted, HasSaid, IsLastLine, IsLine, script_in};
+ghost use Rattle.ctl_script.specs.Run.{GrowsFrom, HasPrinted, HasSaid, IsLastLine, IsLine, script_in};
 
 use crate::ask::ask_of;
 use crate::auditing::audit_of;
@@ -48,7 +48,7 @@ pub fn run_script<D: Driver, R: Read, W: Write>(
     writer: &mut W,
 ) -> (Device<D>, Outcome)
     ensures ran { HasPrinted D.verdict D.told known.now (R.remaining reader.old) (R.remaining reader.new) device result.0 result.1 (outcome_line result.1) (W.contents writer.old) (W.contents writer.new) }
-    ensures device { GoesOn device result.0 }
+    ensures device { GrowsFrom device result.0 }
     ensures one_script { result.1 ≢ Outcome.NoSecond }
 {
     let Ok(mut reply) = ReplyLine::new(alloc) else {
@@ -180,8 +180,8 @@ fn answer_line<D: Driver, W: Write>(
     requires within { length line.now ≤ 1048576 }
     requires made { IfSome kept.old.made (IsProgressOf D.verdict device.old.plan device.old.steps) }
     ensures made { OnOk result (IfSome kept.new.made (IsProgressOf D.verdict device.new.plan device.new.steps)) }
-    ensures line { OnOk result (IsLine D.verdict D.told (line_of known.now (words line.now)) (bound_in kept.old.names) (bound_in kept.new.names) device.old device.new (W.contents writer.old) (W.contents writer.new)) }
-    ensures end { IfErr result (IsLastLine D.verdict D.told (line_of known.now (words line.now)) (bound_in kept.old.names) device.old device.new (W.contents writer.old) (W.contents writer.new)) }
+    ensures line { OnOk result (IsLine D.verdict D.told (line_of known.now (words line.now)) (bound_names kept.old.names) (bound_names kept.new.names) device.old device.new (W.contents writer.old) (W.contents writer.new)) }
+    ensures end { IfErr result (IsLastLine D.verdict D.told (line_of known.now (words line.now)) (bound_names kept.old.names) device.old device.new (W.contents writer.old) (W.contents writer.new)) }
 {
     let command = match read_line(alloc, known, line) {
         Ok(Some(command)) => command,

@@ -1,8 +1,7 @@
 -- What a call does, put together of what its ask does and what is told.
-use Rattle.std.proofs.Common.{arith, ◌≡◌, ◌≤◌, ◌-◌, ◌==◌, ◌∙◌, suc, take, drop, get_or, if◌then◌else◌, length, subst, ℕ, Bool, List, [], ◌∷◌, map, true, false, Ok, Err, refl, sym, ap, inl, inr}
+use Rattle.std.proofs.Common.{arith, ◌≡◌, ◌≤◌, ◌-◌, ◌==◌, ◌∙◌, suc, take, drop, get_or, if◌then◌else◌, length, subst, ℕ, Bool, List, [], ◌∷◌, map, true, false, Option, None, Some, is_some, Ok, Err, refl, sym, ap, inl, inr}
 use Rattle.std.proofs.lemmas.List.{take_all}
 use Rattle.ctrl_calls.specs.Meanings.{Verdicts}
-use Rattle.ctrl_calls.specs.declared.work.Work.{Work}
 use Rattle.ctrl_types.specs.Numbers.{errno_number}
 use Rattle.ctrl_types.specs.Refusals.{memory_refusal}
 use Rattle.ctrl_types.specs.declared.errno.Fault.{Fault}
@@ -11,12 +10,14 @@ use Rattle.device_history.specs.declared.ask.Ask.{Ask}
 use Rattle.device_history.specs.declared.ask.Reply.{Reply}
 use Rattle.device_history.specs.AskChecks.{published}
 use Rattle.device_history.specs.Refusals.{Answer}
-use Rattle.device_state.specs.Device.{DeviceData, Handles}
 use Rattle.device_state.proofs.RunLemmas.{run_plan}
 use Rattle.following_ranges.specs.declared.asking.RangeAsk.{RangeAsk}
 use Rattle.following_ranges.specs.Following.{HandlesAndFollows, is_change, range_call}
-use Rattle.ctl_session.specs.Session.{Asked, SessionData, Stays}
-use Rattle.ctl_session.specs.Calls.{AskedInTurn, Calls, EndedInTurn, Meaning, Told, asking, asking_list, last_errno, plan_in, refused, sized, unsubscribe_ask}
+use Rattle.call_structs.specs.declared.entries.Form.{Form}
+use Rattle.ctl_session.specs.Session.{Asked, SessionData, Stays, without_room}
+use Rattle.ctl_session.specs.Lists.{Wrong}
+use Rattle.ctl_session.specs.declared.list_calls.Access.{Access}
+use Rattle.ctl_session.specs.Calls.{AskedInTurn, Calls, EndedInTurn, Meaning, Told, asks_one, asking_list, last_errno, list_by, list_told, plan_in, refused, sized, unsubscribe_ask}
 use Rattle.ctl_session.specs.declared.calls.TheConstants.{CUT}
 
 -- an ask that the device handled
@@ -25,69 +26,45 @@ pub handled : (verdicts : Verdicts) (old new : SessionData) (ask : Ask) (answer 
 handled verdicts old new ask answer ranges followers does =
     inl (followers, run_plan verdicts (map (range_call 0) ranges) does.behind new.device does.one_by_one ∙ does.answered.plan, (ranges, does))
 
--- a session that isn't touched stays; one that stays twice stays
-pub same_stays : (old new : SessionData) → new ≡ old → Stays old new
-same_stays old new same = subst (λ (s : SessionData). Stays old s) (sym same) refl
+-- an ask for which there was no room
+pub without : (verdicts : Verdicts) (old new : SessionData) (ask : Ask) (answer : Answer) → is_change ask ≡ true → new ≡ old → answer ≡ published ask (Err memory_refusal) → Asked verdicts old new ask answer
+without verdicts old new ask answer change same is = inr (change, same, is)
 
+-- what was asked in turn, and what is told
+turns : (verdicts : Verdicts) (old new : SessionData) (meaning : Meaning) (answers : List Answer) (told : Told)
+    → AskedInTurn verdicts old meaning.asks answers new → told ≡ meaning.told answers → Calls verdicts old meaning new told
+turns verdicts old new meaning answers told turn is = inl (answers, turn, is)
+
+-- a session that stays twice stays
 stays_twice : (old between new : SessionData) → Stays old between → Stays between new → Stays old new
 stays_twice old between new before behind = behind ∙ ap (λ (s : SessionData). record s { device = record s.device { work = new.device.work } }) before
 
--- an ask for which there was no room
-pub without : (verdicts : Verdicts) (old new : SessionData) (ask : Ask) (answer : Answer) → is_change ask ≡ true → new ≡ old → answer ≡ published ask (Err memory_refusal) → Asked verdicts old new ask answer
-without verdicts old new ask answer change same is = inr (change, same_stays old new same, is)
-
--- what a device does behind a call that left it so, it does behind the one before
-handles_behind : (verdicts : Verdicts) (old new : DeviceData) (work : Work) (seat : ℕ) (ask : Ask) (answer : Answer) → Handles verdicts (record old { work = work }) new seat ask answer → Handles verdicts old new seat ask answer
-handles_behind verdicts old new work seat ask answer does = record {
-  plan = does.plan;
-  answers = does.answers;
-  refused = does.refused;
-  steps = does.steps;
-  words = does.words;
-  notified = does.notified;
-  asked = does.asked;
-  asked_all = does.asked_all;
-}
-
-asked_so : (verdicts : Verdicts) (old new : SessionData) (work : Work) (ask : Ask) (answer : Answer) → Asked verdicts (record old { device = record old.device { work = work } }) new ask answer → Asked verdicts old new ask answer
-asked_so verdicts old new work ask answer (inl (followers, plan, rest)) =
-    let does = rest.1 in
-    inl (
-      followers,
-      plan,
-      (
-        rest.0,
-        record {
-          behind = does.behind;
-          answered = handles_behind verdicts old.device does.behind work 0 ask answer does.answered;
-          exactly = does.exactly;
-          one_by_one = does.one_by_one;
-          owes = does.owes;
-        },
-      ),
-    )
-asked_so verdicts old new work ask answer (inr (change, stays, is)) = inr (change, stays, is)
-
-asked_behind : (verdicts : Verdicts) (old between new : SessionData) (ask : Ask) (answer : Answer) → Stays old between → Asked verdicts between new ask answer → Asked verdicts old new ask answer
-asked_behind verdicts old between new ask answer stays asked =
-    asked_so verdicts old new between.device.work ask answer (subst (λ (s : SessionData). Asked verdicts s new ask answer) stays asked)
-
-turn_behind : (verdicts : Verdicts) (old between new : SessionData) (asks : List Ask) (answers : List Answer) → Stays old between → AskedInTurn verdicts between asks answers new → AskedInTurn verdicts old asks answers new
-turn_behind verdicts old between new [] [] stays turn = stays_twice old between new stays turn
-turn_behind verdicts old between new [] (answer ∷ answers) stays turn = absurd turn
-turn_behind verdicts old between new (ask ∷ rest) [] stays turn = absurd turn
-turn_behind verdicts old between new (ask ∷ rest) (Ok reply ∷ answers) stays (next, asked, turn) = (next, asked_behind verdicts old between next ask (Ok reply) stays asked, turn)
-turn_behind verdicts old between new (ask ∷ rest) (Err fault ∷ []) stays turn = asked_behind verdicts old between new ask (Err fault) stays turn
-turn_behind verdicts old between new (ask ∷ rest) (Err fault ∷ answer ∷ answers) stays turn = absurd turn
-
 -- a call of a session that stayed so far
-pub calls_behind : (verdicts : Verdicts) (old between new : SessionData) (meaning : Meaning) (told : Told) → Stays old between → Calls verdicts between meaning new told → Calls verdicts old meaning new told
-calls_behind verdicts old between new meaning told stays (inl (answers, turn, is)) = inl (answers, turn_behind verdicts old between new meaning.asks answers stays turn, is)
-calls_behind verdicts old between new meaning told stays (inr (same, is)) = inr (stays_twice old between new stays same, is)
+calls_behind : (verdicts : Verdicts) (old between new : SessionData) (meaning : Meaning) (told : Told) → Stays old between → is_some meaning.short ≡ true
+    → Calls verdicts between meaning new told → Calls verdicts old meaning new told
+calls_behind verdicts old between new meaning told stays room (inl a) = inr (inr (between, stays, room, inl a))
+calls_behind verdicts old between new meaning told stays room (inr (inl s)) = inr (inr (between, stays, room, inr s))
+calls_behind verdicts old between new meaning told stays room (inr (inr (start, stood, needs, calls))) = inr (inr (start, stays_twice old between start stays stood, needs, calls))
+
+-- what a list is told for which there was no room, whatever its payloads are
+list_short : (forms : List Form) (access : Access) (bytes : List ℕ) (ask : Ask) (wrong : Option Wrong) → (list_by forms access bytes ask wrong).short ≡ Some (list_told forms bytes without_room)
+list_short forms access bytes ask None = refl
+list_short forms access bytes ask (Some wrong) = refl
+
+-- a list of a session that stayed so far
+pub list_behind : (verdicts : Verdicts) (old between new : SessionData) (forms : List Form) (access : Access) (bytes : List ℕ) (ask : Ask) (wrong : Option Wrong) (told : Told)
+    → Stays old between → Calls verdicts between (list_by forms access bytes ask wrong) new told → Calls verdicts old (list_by forms access bytes ask wrong) new told
+list_behind verdicts old between new forms access bytes ask wrong told stays calls =
+    calls_behind verdicts old between new (list_by forms access bytes ask wrong) told stays (ap is_some (list_short forms access bytes ask wrong)) calls
+
+-- a list for which there was no room
+pub list_without : (verdicts : Verdicts) (session : SessionData) (forms : List Form) (access : Access) (bytes : List ℕ) (ask : Ask) (wrong : Option Wrong) (told : Told)
+    → told ≡ list_told forms bytes without_room → Calls verdicts session (list_by forms access bytes ask wrong) session told
+list_without verdicts session forms access bytes ask wrong told is = inr (inl (refl, list_short forms access bytes ask wrong ∙ sym (ap Some is)))
 
 -- nothing is asked
 pub refuses : (verdicts : Verdicts) (session : SessionData) (errno : ℕ) (bytes : List ℕ) (told : Told) → told ≡ (errno, bytes) → Calls verdicts session (refused errno bytes) session told
-refuses verdicts session errno bytes told is = inl ([], refl, is)
+refuses verdicts session errno bytes told is = turns verdicts session session (refused errno bytes) [] told refl is
 
 -- one ask with its answer
 pub once : (verdicts : Verdicts) (old new : SessionData) (ask : Ask) (answer : Answer) → Asked verdicts old new ask answer → AskedInTurn verdicts old (ask ∷ []) (answer ∷ []) new
@@ -95,17 +72,17 @@ once verdicts old new ask (Ok reply) asked = (new, asked, refl)
 once verdicts old new ask (Err fault) asked = asked
 
 pub asks : (verdicts : Verdicts) (old new : SessionData) (ask : Ask) (answer : Answer) (tell : Answer → Told) (told : Told)
-    → Asked verdicts old new ask answer → told ≡ tell answer → Calls verdicts old (asking ask tell) new told
-asks verdicts old new ask answer tell told asked is = inl (answer ∷ [], once verdicts old new ask answer asked, is)
+    → Asked verdicts old new ask answer → told ≡ tell answer → Calls verdicts old (asks_one ask tell) new told
+asks verdicts old new ask answer tell told asked is = turns verdicts old new (asks_one ask tell) (answer ∷ []) told (once verdicts old new ask answer asked) is
 
 pub asks_list : (verdicts : Verdicts) (old new : SessionData) (ask : Ask) (answer : Answer) (tell : Answer → Told) (told : Told)
     → Asked verdicts old new ask answer → told ≡ tell answer → Calls verdicts old (asking_list ask tell) new told
-asks_list verdicts old new ask answer tell told asked is = inl (answer ∷ [], once verdicts old new ask answer asked, is)
+asks_list verdicts old new ask answer tell told asked is = turns verdicts old new (asking_list ask tell) (answer ∷ []) told (once verdicts old new ask answer asked) is
 
 -- an ask leaves the plan as it is
 pub plan_kept : (verdicts : Verdicts) (old new : SessionData) (ask : Ask) (answer : Answer) → Asked verdicts old new ask answer → new.device.plan ≡ old.device.plan
 plan_kept verdicts old new ask answer (inl follows) = follows.1
-plan_kept verdicts old new ask answer (inr (change, stays, is)) = ap (λ (s : SessionData). s.device.plan) stays
+plan_kept verdicts old new ask answer (inr (change, same, is)) = ap (λ (s : SessionData). s.device.plan) same
 
 -- a struct of its size is read
 pub sized_by : (verdicts : Verdicts) (old new : SessionData) (size : ℕ) (bytes : List ℕ) (meaning : Meaning) (told : Told)
@@ -121,7 +98,7 @@ cut verdicts session size bytes meaning other =
 
 -- one ask that was made so
 pub asks_made : (verdicts : Verdicts) (old new : SessionData) (made ask : Ask) (answer : Answer) (tell : Answer → Told) (told : Told) → made ≡ ask
-    → Asked verdicts old new made answer → told ≡ tell answer → Calls verdicts old (asking ask tell) new told
+    → Asked verdicts old new made answer → told ≡ tell answer → Calls verdicts old (asks_one ask tell) new told
 asks_made verdicts old new made ask answer tell told is asked tells =
     asks verdicts old new ask answer tell told (subst (λ a. Asked verdicts old new a answer) is asked) tells
 

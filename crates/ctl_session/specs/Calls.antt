@@ -43,7 +43,7 @@ use Rattle.ctl_session.specs.declared.calls.TheConstants.{CUT, NO_CALL}
 use Rattle.ctl_session.specs.declared.list_calls.Access.{Access}
 use Rattle.ctl_session.specs.declared.list_calls.Access.TheVariants.{Get, Set, Try}
 use Rattle.ctl_session.specs.declared.lists.TheConstants.{MOST_ENTRIES, V4L2_CID_MAX_CTRLS}
-use Rattle.ctl_session.specs.Ids.{form_of, is_narrow, is_old, queried, real_id, shown}
+use Rattle.ctl_session.specs.Ids.{form_by_id, is_narrow, is_old, queried, real_id, shown}
 use Rattle.ctl_session.specs.Lists.{Wrong, entries_in, first_of_control, form_at, forms_in, stands_before, with_values, wrong_payload}
 use Rattle.ctl_session.specs.Session.{Asked, SessionData, Stays, errno_in, refusal_in, without_room}
 
@@ -67,8 +67,8 @@ by_first tell [] = tell without_room
 by_first tell (answer ∷ rest) = tell answer
 
 -- one ask
-abbrev pub asking : Ask → (Answer → Told) → Meaning
-asking ask tell = record { asks = ask ∷ []; told = by_first tell; short = None }
+abbrev pub asks_one : Ask → (Answer → Told) → Meaning
+asks_one ask tell = record { asks = ask ∷ []; told = by_first tell; short = None }
 
 -- one ask of a list, for which there may be no room
 abbrev pub asking_list : Ask → (Answer → Told) → Meaning
@@ -104,12 +104,12 @@ abbrev pub query_told : (CtrlInfo → List ℕ) → List ℕ → Answer → Told
 query_told put bytes answer = info_put put bytes (info_told answer)
 
 -- a query of the control that its id speaks of
-abbrev pub query_of : (CtrlInfo → List ℕ) → FhId → List ℕ → Option CtrlId → Meaning
-query_of put fh bytes None = refused (errno_number EINVAL) bytes
-query_of put fh bytes (Some id) = asking (asks.Query fh id) (query_told put bytes)
+abbrev pub query_meant : (CtrlInfo → List ℕ) → FhId → List ℕ → Option CtrlId → Meaning
+query_meant put fh bytes None = refused (errno_number EINVAL) bytes
+query_meant put fh bytes (Some id) = asks_one (asks.Query fh id) (query_told put bytes)
 
 abbrev pub query_call : PlanData → ℕ → (CtrlInfo → List ℕ) → FhId → List ℕ → Meaning
-query_call plan h put fh bytes = query_of put fh bytes (queried plan h (u32_in query.ID bytes))
+query_call plan h put fh bytes = query_meant put fh bytes (queried plan h (u32_in query.ID bytes))
 
 -- what a query of an item is told
 abbrev pub item_told : List ℕ → Answer → Told
@@ -122,7 +122,7 @@ abbrev pub menu_ask : PlanData → ℕ → FhId → List ℕ → Ask
 menu_ask plan h fh bytes = asks.MenuItem fh (real_id plan h (record { 0 = u32_in menu.ID bytes })) (u32_in menu.INDEX bytes)
 
 abbrev pub menu_call : PlanData → ℕ → FhId → List ℕ → Meaning
-menu_call plan h fh bytes = asking (menu_ask plan h fh bytes) (item_told bytes)
+menu_call plan h fh bytes = asks_one (menu_ask plan h fh bytes) (item_told bytes)
 
 -- One control.
 
@@ -151,7 +151,7 @@ one_by sets fh bytes id false = refused (errno_number EINVAL) bytes
 
 -- a list of one entry about the present values
 abbrev pub one_call : Bool → PlanData → ℕ → FhId → List ℕ → Meaning
-one_call sets plan h fh bytes = one_by sets fh bytes (one_id plan h bytes) (is_narrow (form_of plan h (one_id plan h bytes)))
+one_call sets plan h fh bytes = one_by sets fh bytes (one_id plan h bytes) (is_narrow (form_by_id plan h (one_id plan h bytes)))
 
 -- Lists.
 
@@ -264,11 +264,11 @@ subscribe_ask plan h fh bytes =
 -- only the events of controls can be subscribed to
 abbrev pub subscribe_call : PlanData → ℕ → FhId → List ℕ → Meaning
 subscribe_call plan h fh bytes =
-    if u32_in subscription.TYPE bytes == calls.V4L2_EVENT_CTRL then asking (subscribe_ask plan h fh bytes) (errno_told bytes) else refused (errno_number EINVAL) bytes
+    if u32_in subscription.TYPE bytes == calls.V4L2_EVENT_CTRL then asks_one (subscribe_ask plan h fh bytes) (errno_told bytes) else refused (errno_number EINVAL) bytes
 
 -- the controls that a file handle is subscribed to, in the order of their numbers
-abbrev pub subscriptions : DeviceData → FhId → List ℕ
-subscriptions device fh = filter (λ c. is_some (subscribed (past device.steps) fh c)) (range_with_len 0 (length device.plan.controls))
+abbrev pub subscribed_controls : DeviceData → FhId → List ℕ
+subscribed_controls device fh = filter (λ c. is_some (subscribed (past device.steps) fh c)) (range_with_len 0 (length device.plan.controls))
 
 -- the errno of the last answer
 abbrev pub last_errno : List Answer → ℕ
@@ -287,9 +287,9 @@ ending_all plan fh controls bytes = record { asks = map (unsubscribe_ask plan fh
 abbrev pub unsubscribe_call : SessionData → FhId → List ℕ → Meaning
 unsubscribe_call session fh bytes =
     if u32_in subscription.TYPE bytes == calls.V4L2_EVENT_CTRL
-    then asking (asks.Unsubscribe fh (record { 0 = u32_in subscription.ID bytes })) (errno_told bytes)
+    then asks_one (asks.Unsubscribe fh (record { 0 = u32_in subscription.ID bytes })) (errno_told bytes)
     else if u32_in subscription.TYPE bytes == calls.V4L2_EVENT_ALL
-    then ending_all (plan_in session) fh (subscriptions session.device fh) bytes
+    then ending_all (plan_in session) fh (subscribed_controls session.device fh) bytes
     else refused 0 bytes
 
 -- what is told of an event that was taken
@@ -299,7 +299,7 @@ taken_told bytes (Ok reply) = (NO_CALL, bytes)
 taken_told bytes (Err fault) = (errno_number fault.errno, bytes)
 
 abbrev pub take_call : FhId → List ℕ → Meaning
-take_call fh bytes = asking (asks.Take fh) (taken_told bytes)
+take_call fh bytes = asks_one (asks.Take fh) (taken_told bytes)
 
 -- The call with a number on an open file handle, whose handler is h.
 abbrev pub call_on : Verdicts → SessionData → (CtrlInfo → List ℕ) → ℕ → FhId → Option RequestId → ℕ → List ℕ → Meaning
@@ -329,7 +329,7 @@ call_of verdicts session name fh request number bytes = call_by verdicts session
 
 -- Asks are asked one after another, until one is refused; each has its answer.
 abbrev pub AskedInTurn : Verdicts → SessionData → List Ask → List Answer → SessionData → Type 0
-AskedInTurn verdicts old [] [] new = Stays old new
+AskedInTurn verdicts old [] [] new = new ≡ old
 AskedInTurn verdicts old (ask ∷ rest) (Ok reply ∷ answers) new =
     (between : SessionData) × Asked verdicts old between ask (Ok reply) × AskedInTurn verdicts between rest answers new
 AskedInTurn verdicts old (ask ∷ rest) (Err fault ∷ []) new = Asked verdicts old new ask (Err fault)
@@ -340,8 +340,16 @@ abbrev pub EndedInTurn : Verdicts → SessionData → FhId → List ℕ → Sess
 EndedInTurn verdicts old fh controls new errno =
     (answers : List Answer) × AskedInTurn verdicts old (map (unsubscribe_ask (plan_in old) fh) controls) answers new × (errno ≡ last_errno answers)
 
--- What a call does: its asks are asked in turn, and it is told what their answers say; or there was no room for them, and nothing was asked.
+-- What a call does from a session on: its asks are asked in turn, and it is told what their answers say; or there was no room for them, and nothing was asked.
+abbrev pub CallsFrom : Verdicts → SessionData → Meaning → SessionData → Told → Type 0
+CallsFrom verdicts start meaning new told =
+    ((answers : List Answer) × AskedInTurn verdicts start meaning.asks answers new × (told ≡ meaning.told answers))
+    ⊎ ((new ≡ start) × (meaning.short ≡ Some told))
+
+-- What a call does: that, from the session as it is; or, where the session itself needs room for its asks, from one that was asked what would refuse them, which leaves other
+-- counts of its device's last call.
 abbrev pub Calls : Verdicts → SessionData → Meaning → SessionData → Told → Type 0
 Calls verdicts old meaning new told =
     ((answers : List Answer) × AskedInTurn verdicts old meaning.asks answers new × (told ≡ meaning.told answers))
-    ⊎ (Stays old new × (meaning.short ≡ Some told))
+    ⊎ ((new ≡ old) × (meaning.short ≡ Some told))
+    ⊎ ((start : SessionData) × Stays old start × (is_some meaning.short ≡ true) × CallsFrom verdicts start meaning new told)

@@ -29,8 +29,8 @@ abbrev pub form_of_shown : Option Control → Form
 form_of_shown None = Narrow
 form_of_shown (Some ctrl) = form_of_kind ctrl.kind (elems_of ctrl)
 
-abbrev pub form_of : PlanData → ℕ → CtrlId → Form
-form_of plan h id = form_of_shown (shown plan h id)
+abbrev pub form_by_id : PlanData → ℕ → CtrlId → Form
+form_by_id plan h id = form_of_shown (shown plan h id)
 
 -- whether the value of a control is a number of 32 bits
 abbrev pub is_narrow : Form → Bool

@@ -15,7 +15,7 @@ use Rattle.call_structs.specs.declared.entries.Form.{Form}
 use Rattle.call_structs.specs.declared.entries.Form.TheVariants.{Array, Narrow}
 use Rattle.call_structs.specs.declared.entries.PayloadFault.{PayloadFault}
 use Rattle.call_structs.specs.declared.entries.PayloadFault.TheVariants.{TooSmall, Unreadable}
-use Rattle.ctl_session.specs.Ids.{form_of}
+use Rattle.ctl_session.specs.Ids.{form_by_id}
 
 -- what stands in for a payload that can't be taken
 abbrev pub stand_in : Form → CtrlValue
@@ -29,7 +29,7 @@ value_or form (Err fault) = stand_in form
 
 -- the form of each entry of a list
 abbrev pub forms_in : PlanData → ℕ → ℕ → List ℕ → List Form
-forms_in plan h count bytes = map (λ place. form_of plan h (id_at place bytes)) (range_with_len 0 count)
+forms_in plan h count bytes = map (λ place. form_by_id plan h (id_at place bytes)) (range_with_len 0 count)
 
 -- the form of the entry at a place
 abbrev pub form_at : List Form → ℕ → Form
@@ -44,12 +44,12 @@ abbrev pub read_at : List Form → List ℕ → ℕ → Result CtrlValue Payload
 read_at forms bytes place = value_at (form_at forms place) (length forms) place bytes
 
 -- that entry as the device takes it
-abbrev pub entry_at : List Form → List ℕ → ℕ → ExtControl
-entry_at forms bytes place = record { id = id_at place bytes; value = value_or (form_at forms place) (read_at forms bytes place) }
+abbrev pub entry_seen : List Form → List ℕ → ℕ → ExtControl
+entry_seen forms bytes place = record { id = id_at place bytes; value = value_or (form_at forms place) (read_at forms bytes place) }
 
 -- the entries of a list
 abbrev pub entries_in : List Form → List ℕ → List ExtControl
-entries_in forms bytes = map (entry_at forms bytes) (range_with_len 0 (length forms))
+entries_in forms bytes = map (entry_seen forms bytes) (range_with_len 0 (length forms))
 
 -- whether the payload of an entry has a fault
 abbrev pub is_too_small : Result CtrlValue PayloadFault → Bool

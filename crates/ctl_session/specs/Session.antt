@@ -30,13 +30,13 @@ Follows verdicts old new ask answer =
     (new.followers ≡ old.followers) × (new.device.plan ≡ old.device.plan)
     × ((ranges : List RangeAsk) × HandlesAndFollows verdicts old.followers old.device new.device old.owed new.owed 0 ask answer ranges)
 
--- A session of which nothing is asked stays as it is, but for the counts of its device's last call.
+-- A session that was only asked what would refuse an ask stays as it is, but for the counts of its device's last call.
 abbrev pub Stays : SessionData → SessionData → Type 0
 Stays old new = new ≡ record old { device = record old.device { work = new.device.work } }
 
 -- What an ask of a session does: that; or, where it can be a change, there was no room for the answers of ranges, and nothing was asked.
 abbrev pub Asked : Verdicts → SessionData → SessionData → Ask → Answer → Type 0
-Asked verdicts old new ask answer = Follows verdicts old new ask answer ⊎ ((is_change ask ≡ true) × Stays old new × (answer ≡ published ask (Err memory_refusal)))
+Asked verdicts old new ask answer = Follows verdicts old new ask answer ⊎ ((is_change ask ≡ true) × (new ≡ old) × (answer ≡ published ask (Err memory_refusal)))
 
 -- what would refuse an ask, where memory suffices
 abbrev pub refusal_in : Verdicts → SessionData → Ask → Option Refusal

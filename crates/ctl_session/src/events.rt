@@ -1,7 +1,7 @@
 ghost use Rattle.std.specs.Prelude.{◌≡◌, ◌≤◌, length, take};
 ghost use Rattle.ioctl_bytes.specs.declared.layout.v4l2_event.TheConstants as event_struct;
 ghost use Rattle.ioctl_bytes.specs.declared.layout.v4l2_event_subscription.TheConstants as subscription;
-ghost use Rattle.ctl_session.specs.Calls.{Calls, EndedInTurn, flags_for as flags_meant, plan_in, sized, subscribe_ask as ask_to_subscribe, subscribe_call, subscriptions as subscribed_to, take_call, taken_told, unsubscribe_call};
+ghost use Rattle.ctl_session.specs.Calls.{Calls, EndedInTurn, flags_for as flags_meant, plan_in, sized, subscribe_ask as ask_to_subscribe, subscribe_call, subscribed_controls as subscribed_to, take_call, taken_told, unsubscribe_call};
 
 use crate::calls::{CUT, NO_CALL};
 use crate::ids::{id_at, shown};

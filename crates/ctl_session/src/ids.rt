@@ -4,7 +4,7 @@ ghost use Rattle.std.specs.Prelude.{◌≡◌};
 ghost use Rattle.std.specs.List.{filter};
 ghost use Rattle.ctrl_handlers.specs.Plan.{control_in, ids_of};
 ghost use Rattle.ctrl_handlers.specs.Visible.{least_above};
-ghost use Rattle.ctl_session.specs.Ids.{form_of as form_for, form_of_kind as form_by, is_narrow as has_narrow, is_nth as is_the_nth, is_old as is_of_old, is_private_user as is_own_user, is_wanted as wanted, next_wanted as next_of, nth_private as nth_own, private_below as own_below, queried as meant_by, real_id as real, shown as control_shown};
+ghost use Rattle.ctl_session.specs.Ids.{form_by_id as form_for, form_of_kind as form_by, is_narrow as has_narrow, is_nth as is_the_nth, is_old as is_of_old, is_private_user as is_own_user, is_wanted as wanted, next_wanted as next_of, nth_private as nth_own, private_below as own_below, queried as meant_by, real_id as real, shown as control_shown};
 ghost use Rattle.ctl_session.specs.Lists.{HasSlot};
 
 use call_structs::Form;

@@ -4,7 +4,7 @@ ghost use Rattle.std.specs.Prelude.{◌≡◌, ◌≤◌, ◌<◌, ◌+◌, IfOk
 ghost use Rattle.std.specs.List.{All};
 ghost use Rattle.call_structs.specs.Entries.{entry_start, list_size};
 ghost use Rattle.ctl_session.specs.declared.lists.TheConstants.{MOST_ENTRIES};
-ghost use Rattle.ctl_session.specs.Lists.{HasSlot, entries_in, entry_at as entry_for, first_of_control as first_entry, first_with as first_wrong, form_at as entry_form, forms_in, has_fault as is_fault, names_same as is_same, read_at as read_for, stand_in as stands_in};
+ghost use Rattle.ctl_session.specs.Lists.{HasSlot, entries_in, entry_seen as entry_for, first_of_control as first_entry, first_with as first_wrong, form_at as entry_form, forms_in, has_fault as is_fault, names_same as is_same, read_at as read_for, stand_in as stands_in};
 
 use crate::ids::form_of;
 use call_structs::{Form, PayloadFault, entry_id, value_at};

@@ -4,7 +4,7 @@ ghost use Rattle.call_structs.specs.Told.{query_ext_ctrl, queryctrl};
 ghost use Rattle.ioctl_bytes.specs.declared.layout.v4l2_query_ext_ctrl.TheConstants as ext;
 ghost use Rattle.ioctl_bytes.specs.declared.layout.v4l2_queryctrl.TheConstants as query_struct;
 ghost use Rattle.ioctl_bytes.specs.declared.layout.v4l2_querymenu.TheConstants as menu;
-ghost use Rattle.ctl_session.specs.Calls.{Calls, info_put, info_told as info_in, item_told, menu_ask as ask_for_item, menu_call, plan_in, query_call, query_of as query_for, sized, with_old_id};
+ghost use Rattle.ctl_session.specs.Calls.{Calls, info_put, info_told as info_in, item_told, menu_ask as ask_for_item, menu_call, plan_in, query_call, query_meant as query_for, sized, with_old_id};
 
 use crate::calls::{CUT, NO_CALL};
 use crate::ids::{is_old, queried, real_id};

@@ -2,13 +2,13 @@ use Rattle.std.proofs.Common.{arith, ◌∙◌, ◌+◌, ◌++◌, ◌∷◌, []
 use Rattle.std.proofs.lemmas.List.{length_push}
 use Rattle.std.specs.List.{range_with_len}
 use Rattle.std.proofs.lemmas.List.FromFn.{map-range_with_len_more}
-use Rattle.ctl_session.specs.Lists.{entry_at}
+use Rattle.ctl_session.specs.Lists.{entry_seen}
 use Rattle.ctl_session.proofs.lists.read_list.Goals as goal
 
 -- one more entry
 pub loop-place-preserved : goal.loop-place-preserved
 loop-place-preserved c =
-    let entry = entry_at c.args.forms.now c.args.arg.now in
+    let entry = entry_seen c.args.forms.now c.args.arg.now in
     let old = c.loop-place.invariant in
     record {
       read = c.push_reserved.ensures.items

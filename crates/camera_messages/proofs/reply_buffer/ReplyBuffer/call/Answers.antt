@@ -1,5 +1,5 @@
 use borrow.Rule.Slice.PartMut.{put_mid}
-use Rattle.std.proofs.Common.{rules, arith, ◌≡◌, ◌∙◌, ◌-◌, ℕ, List, ap, ap₂, drop, length, subst, sym}
+use Rattle.std.proofs.Common.{rules, arith, ◌∙◌, ◌-◌, ℕ, List, ap, ap₂, drop, length, subst, sym}
 use Rattle.std.proofs.lemmas.List.{with_items_is}
 use Rattle.std.proofs.lemmas.Slice.{between_to_end}
 use Rattle.data_driver.specs.Data.{data_verdict}

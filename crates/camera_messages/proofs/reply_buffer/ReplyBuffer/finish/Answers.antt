@@ -1,6 +1,6 @@
 use Rattle.std.proofs.Common.{rules, ◌∙◌, ◌-◌, ◌++◌, List, ℕ, ap, drop, length}
 use Rattle.std.proofs.lemmas.List.{with_items_is}
-use Rattle.camera_messages.specs.Replies.{ReplyData, bytes_of, front}
+use Rattle.camera_messages.specs.Replies.{ReplyData, bytes_of_reply, front}
 use Rattle.camera_messages.proofs.ReplyLemmas.{whole_front}
 use Rattle.camera_messages.proofs.reply_buffer.ReplyBuffer.finish.Goals as goal
 
@@ -13,4 +13,4 @@ returns c =
     ∙ c.put_front.ensures
     ∙ ap (λ (bytes : List ℕ). front (length bytes - 4) r.head ++ drop 20 bytes) c.as_mut_slice.ensures.value
     ∙ whole_front r.head r.bytes.items r.is_whole c.self.invariant
-    ∙ ap (λ (reply : ReplyData). bytes_of reply) (c.self.view_is ∙ c.settle.ensures)
+    ∙ ap (λ (reply : ReplyData). bytes_of_reply reply) (c.self.view_is ∙ c.settle.ensures)

@@ -4,7 +4,7 @@ use Rattle.device_history.specs.declared.info.CtrlInfo.{CtrlInfo}
 use Rattle.call_structs.specs.Told.{queryctrl}
 use Rattle.ioctl_bytes.specs.declared.layout.v4l2_queryctrl.TheConstants.{SIZE}
 use Rattle.ctl_session.specs.Ids.{queried}
-use Rattle.ctl_session.specs.Calls.{Calls, Told, plan_in, query_call, query_of}
+use Rattle.ctl_session.specs.Calls.{Calls, Told, plan_in, query_call, query_meant}
 use Rattle.ctl_session.proofs.CallLemmas.{cut, sized_by}
 use Rattle.ctl_session.proofs.session.Session.query.Goals as goal
 
@@ -26,5 +26,5 @@ returns g c =
     let asked = c.queried-asked.ensures ∙ ap (λ p. queried p c.args.handler c.u32_at.result) c.plan.ensures ∙ ap (queried plan c.args.handler) c.u32_at.ensures in (
       c.query_of.ensures.0,
       sized_by v old new SIZE bytes (query_call plan c.args.handler put c.args.fh bytes) told (search rules)
-          (subst (λ (asked : Option CtrlId). Calls v old (query_of put c.args.fh bytes asked) new told) asked c.query_of.ensures.1),
+          (subst (λ (asked : Option CtrlId). Calls v old (query_meant put c.args.fh bytes asked) new told) asked c.query_of.ensures.1),
     )

@@ -5,7 +5,7 @@ use Rattle.ctrl_types.specs.declared.ids.CtrlId.{CtrlId}
 use Rattle.device_history.specs.declared.ask.Ask.TheVariants.{Query}
 use Rattle.device_history.specs.declared.info.CtrlInfo.{CtrlInfo}
 use Rattle.call_structs.specs.Told.{query_ext_ctrl}
-use Rattle.ctl_session.specs.Calls.{Calls, Told, info_put, query_of, query_told}
+use Rattle.ctl_session.specs.Calls.{Calls, Told, info_put, query_meant, query_told}
 use Rattle.ctl_session.proofs.CallLemmas.{asks, refuses}
 use Rattle.ctl_session.proofs.session.Session.query_ext_of.Goals as goal
 
@@ -19,7 +19,7 @@ returns-in-Some g c =
     let told : Told = (c.tell_query_ext.result, c.tell_query_ext.new.arg) in
     let put : CtrlInfo → List ℕ = λ info. query_ext_ctrl info (c.tell_query_ext.ensures.0 info) in (
       c.tell_query_ext.ensures.0,
-      subst (λ (asked : Option CtrlId). Calls v old (query_of put c.args.fh bytes asked) new told) (sym c.in-Some.is)
+      subst (λ (asked : Option CtrlId). Calls v old (query_meant put c.args.fh bytes asked) new told) (sym c.in-Some.is)
           (asks v old new (Query c.args.fh c.in-Some.id) c.ask-answer.result (query_told put bytes) told c.ask-answer.ensures
           (c.tell_query_ext.ensures.1 ∙ ap (info_put put bytes) c.info_told.ensures)),
     )
@@ -31,6 +31,6 @@ returns-in-None g c =
     let bytes = c.args.arg.now in
     let told : Told = (c.number.result, bytes) in (
       (λ info. []),
-      subst (λ (asked : Option CtrlId). Calls v c.args.self.now (query_of (λ info. query_ext_ctrl info []) c.args.fh bytes asked) c.args.self.now told) (sym c.in-None.is)
+      subst (λ (asked : Option CtrlId). Calls v c.args.self.now (query_meant (λ info. query_ext_ctrl info []) c.args.fh bytes asked) c.args.self.now told) (sym c.in-None.is)
           (refuses v c.args.self.now (errno_number EINVAL) bytes told (ap (λ e. (e, bytes)) c.number.ensures)),
     )
