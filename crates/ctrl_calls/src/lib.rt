@@ -18,7 +18,7 @@ mod work;
 pub use calls::Calls;
 pub use driver::{Driver, Notifies, Validates};
 pub use judging::Judging;
-pub use notifier::{Notifier, tell_row};
+pub use notifier::{Notifier, tell};
 pub use relation::{Relation, Relations};
 pub use row::{ClusterRow, MAX_MEMBERS};
 pub use row_values::RowValues;

@@ -60,7 +60,7 @@ impl<D: Driver> Notifier<D> {
 /// Controls", "Adding Notify Callbacks"). Answers its word, one that the notifier's relation allows for the row (of this
 /// project). The closure is called once, and `told` of `work` grows by one; a full count stays as it is, and so does the
 /// other count.
-pub fn tell_row<D: Driver>(notifier: &Notifier<D>, row: ClusterRow, work: &mut Work) -> u64
+pub fn tell<D: Driver>(notifier: &Notifier<D>, row: ClusterRow, work: &mut Work) -> u64
     ensures told { D.told notifier.now row result }
     ensures counted { work.new ≡ record work.old { told = one_more work.old.told } }
 {

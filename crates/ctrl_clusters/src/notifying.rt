@@ -12,7 +12,7 @@ use crate::changes::is_any_changed;
 use crate::moment::Moment;
 use crate::rising::next_number;
 use crate::writing::present_row;
-use ctrl_calls::{Driver, Work, tell_row};
+use ctrl_calls::{Driver, Work, tell};
 use ctrl_handlers::Plan;
 use ctrl_types::Pair;
 use std::alloc::{AllocError, Global};
@@ -127,7 +127,7 @@ fn notify_present<D: Driver>(at: &Moment<D>, cluster: u32, work: &mut Work) -> u
 {
     let members = at.plan.members(cluster);
     match at.plan.notifier(cluster) {
-        Some(notifier) => tell_row(notifier, present_row(at.values, members), work),
+        Some(notifier) => tell(notifier, present_row(at.values, members), work),
         None => 0,
     }
 }

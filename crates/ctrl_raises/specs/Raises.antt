@@ -5,7 +5,7 @@ use Rattle.std.specs.Ordering.{int_eq}
 use Rattle.ctrl_types.specs.Values.{number_of}
 use Rattle.ctrl_types.specs.declared.value.CtrlValue.{CtrlValue}
 use Rattle.ctrl_types.specs.Flags.{contains}
-use Rattle.ctrl_types.specs.Events.{joined, no_changes, value_change, flags_change, is_nothing, has_flags}
+use Rattle.ctrl_types.specs.Events.{joined, no_changes, value_change, flags_change, is_nothing, has_flags, has_range}
 use Rattle.ctrl_types.specs.declared.changes.Changes.{Changes}
 use Rattle.ctrl_types.specs.declared.changes.TheConstants.Changes.{CH_RANGE}
 use Rattle.ctrl_types.specs.declared.flags.Flags.{Flags}
@@ -76,10 +76,10 @@ abbrev pub initial_changes : Flags → Changes
 initial_changes flags = changes_of (not (contains flags WRITE_ONLY)) true false
 
 -- The file handle that a change of a control comes from, where it hears of it only if its subscription allows feedback: the control is among its
--- pairs, and its flags stay.
+-- pairs, and its flags and its range stay.
 abbrev pub needing_feedback : Option ℕ → List Pair → Changes → ℕ → Option ℕ
 needing_feedback None pairs change c = None
-needing_feedback (Some from) pairs change c = cond (has_flags change || not (is_among pairs c)) None (Some from)
+needing_feedback (Some from) pairs change c = cond (has_flags change || has_range change || not (is_among pairs c)) None (Some from)
 
 -- what changes of a control is raised for a file handle, where something does
 abbrev pub raised_one : Changes → Payload → Option ℕ → ℕ → ℕ → FileEvents → FileEvents

@@ -134,7 +134,10 @@ fn needing_feedback(
 ) -> Option<FhId>
     ensures { option_map (λ fh. fh.0) result ≡ needing_feedback (option_map (λ fh. fh.0) from) pairs.now changes control }
 {
-    if changes.intersects(Changes::CH_FLAGS) || !is_among(pairs, control) {
+    if changes.intersects(Changes::CH_FLAGS)
+        || changes.intersects(Changes::CH_RANGE)
+        || !is_among(pairs, control)
+    {
         None
     } else {
         from

@@ -26,6 +26,10 @@ is_nothing c = c.0 == 0
 abbrev pub has_flags : Changes → Bool
 has_flags c = not (bit_and c.0 2 == 0)
 
+-- whether the range is among what changed
+abbrev pub has_range : Changes → Bool
+has_range c = not (bit_and c.0 4 == 0)
+
 -- an event is raised at once for the file handle that subscribes
 abbrev pub sends_initial : SubFlags → Bool
 sends_initial f = not (bit_and f.0 1 == 0)

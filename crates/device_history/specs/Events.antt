@@ -53,8 +53,8 @@ abbrev pub from_of : Step → Changes → ℕ → Option ℕ
 from_of (steps.Set from pairs) change c = needing_feedback (Some from.0) pairs change c
 from_of _ change c = None
 
--- A subscriber hears of what a step changes of a control; but of what it sets itself only where feedback is allowed, where the flags change, or where
--- the control wasn't in the list (ctrl_raises/specs/Raises, `needing_feedback`).
+-- A subscriber hears of what a step changes of a control; but of what it sets itself only where feedback is allowed, where the flags or the range
+-- change, or where the control wasn't in the list (ctrl_raises/specs/Raises, `needing_feedback`).
 abbrev pub hears : FhId → SubFlags → Step → Changes → ℕ → Bool
 hears fh flags step change c = reaches (is_from (from_of step change c) fh.0) (Some flags)
 

@@ -7,7 +7,7 @@ ghost use Rattle.ctrl_calls.specs.declared.verdict.Verdict.TheVariants.{Accept};
 use crate::values::{are_numbers, is_row, row_of, values_of};
 use ctrl_calls::{
     Calls, ClusterRow, Driver, Notifier, Notifies, Relation, Relations, RowValues, Validates,
-    Validator, Verdict, Work, ask, tell_row,
+    Validator, Verdict, Work, ask, tell,
 };
 use ctrl_types::{ByteRow, CtrlValue};
 use std::alloc::Global;
@@ -154,7 +154,7 @@ fn call<D: Driver>(
             }
         }
         if let Some(notifier) = &calls.notifier {
-            if tell_row(notifier, row.to_cluster_row(), &mut work) != 2 {
+            if tell(notifier, row.to_cluster_row(), &mut work) != 2 {
                 return None;
             }
         }

@@ -1,7 +1,7 @@
 //! Limits and words as data, asked and told through the calls that are made of them.
 
 use crate::values::row_of;
-use ctrl_calls::{RowValues, Verdict, Work, ask, tell_row};
+use ctrl_calls::{RowValues, Verdict, Work, ask, tell};
 use data_driver::{Excess, Limit, Word, data_calls};
 
 const LOWERED_BEHIND: Limit = Limit::AtMostMember {
@@ -76,7 +76,7 @@ fn verdict_on(limit: Limit, row: &RowValues) -> Option<Verdict> {
 fn word_on(word: Word, row: &RowValues) -> Option<u64> {
     let calls = data_calls(8, None, Some(word)).ok()?;
     let mut work = Work::new();
-    Some(tell_row(calls.notifier.as_ref()?, row.to_cluster_row(), &mut work))
+    Some(tell(calls.notifier.as_ref()?, row.to_cluster_row(), &mut work))
 }
 
 #[test]

@@ -97,6 +97,28 @@ const CASES: &[(Range, Case)] = &[
             taken: [&[(3, 7, 32, 0x2)], &[(3, 7, 32, 0x2)], &[(3, 7, 32, 0x2)]],
         },
     ),
+    // also by the one whose set moves it, of a control in its pairs
+    (
+        (0, 92, 2, 30),
+        Case {
+            before: (MANUAL, FREE),
+            after: (PLAIN, FREE),
+            pairs: &[(3, 32)],
+            from: Some(0),
+            taken: [&[(3, 5, 32, 0)], &[(3, 5, 32, 0)], &[(3, 5, 32, 0)]],
+        },
+    ),
+    // but of a value alone it hears only with feedback
+    (
+        OWN,
+        Case {
+            before: (MANUAL, FREE),
+            after: (PLAIN, FREE),
+            pairs: &[(3, 32)],
+            from: Some(0),
+            taken: [&[], &[(3, 1, 32, 0)], &[(3, 1, 32, 0)]],
+        },
+    ),
 ];
 
 // The plan's ranges, with another one of control 3.

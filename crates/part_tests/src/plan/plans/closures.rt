@@ -4,7 +4,7 @@ ghost use Rattle.ctrl_calls.specs.declared.verdict.Verdict.TheVariants.{Accept};
 
 use ctrl_calls::{
     Calls, ClusterRow, Judging, Notifier, Notifies, Relation, RowValues, Telling, Validates,
-    Validator, Verdict, Work, ask, tell_row,
+    Validator, Verdict, Work, ask, tell,
 };
 use ctrl_handlers::Plan;
 use std::alloc::Global;
@@ -94,7 +94,7 @@ fn judges(validator: &Validator<Alike>, called: &Arc<AtomicU64>) -> Option<u64> 
 // The number of a notifier.
 fn tells(notifier: &Notifier<Alike>) -> Option<u64> {
     let row = RowValues::zeros(0);
-    Some(tell_row(notifier, row.to_cluster_row(), &mut Work::new()))
+    Some(tell(notifier, row.to_cluster_row(), &mut Work::new()))
 }
 
 /// Whether closures are those of this number.
