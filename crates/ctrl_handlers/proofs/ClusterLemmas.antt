@@ -42,7 +42,7 @@ pub any-None : {X : Type 0} (p : X → Bool) (xs : List X) → is_some (position
 any-None p xs h = sym (any_found p xs) ∙ h
 
 -- where none passes, the one at a place doesn't
-fails_at : {X : Type 0} (p : X → Bool) (xs : List X) (i : ℕ) (d : X) → list_any p xs ≡ false → i < length xs → p (get_or xs i d) ≡ false
+pub fails_at : {X : Type 0} (p : X → Bool) (xs : List X) (i : ℕ) (d : X) → list_any p xs ≡ false → i < length xs → p (get_or xs i d) ≡ false
 fails_at p xs i d none within = by (p (get_or xs i d)) refl
   where
     by : (b : Bool) → p (get_or xs i d) ≡ b → b ≡ false
@@ -282,6 +282,7 @@ is_plan_add plan named manual calls is may = record {
   own_known = is.own_known;
   own_differ = is.own_differ;
   added_before = is.added_before;
+  follow = is.follow;
 }
 
 -- where one of some controls passes, one of them does

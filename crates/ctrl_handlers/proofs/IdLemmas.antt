@@ -12,7 +12,7 @@ use Rattle.ctrl_handlers.specs.Visible.{first_with_id}
 use Rattle.ctrl_handlers.proofs.ClusterLemmas.{or_false, or_false_right}
 
 -- the tests of two numbers for equality are the same either way round
-not_equal : (x y : ℕ) → nat_eq x y ≡ false → nat_eq y x ≡ false
+pub not_equal : (x y : ℕ) → nat_eq x y ≡ false → nat_eq y x ≡ false
 not_equal x y h = grind (arith, nat_tests, h)
 
 -- one more number that isn't there yet

@@ -67,6 +67,7 @@ is_plan_item plan c index item is within taken = record {
   own_known = is.own_known;
   own_differ = is.own_differ;
   added_before = is.added_before;
+  follow = is.follow;
 }
   where
     known : (d i : ℕ) (found : MenuItem) → Found plan.items (c, index) item (d, i) found → d < length plan.controls

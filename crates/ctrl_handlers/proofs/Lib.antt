@@ -2,6 +2,8 @@ pub mod ListLemmas
 pub mod ClusterLemmas
 pub mod FinishLemmas
 pub mod IdLemmas
+pub mod FollowLemmas
+pub mod ReachLemmas
 pub mod PlanLemmas
 pub mod ItemLemmas
 pub mod ShownLemmas

@@ -14,6 +14,7 @@ use Rattle.ctrl_handlers.specs.Visible.{first_with_id}
 use Rattle.ctrl_handlers.specs.Builder.{adding_refusal, control_refusal}
 use Rattle.ctrl_handlers.specs.declared.fault.PlanFault.TheVariants.{DuplicateId, LaterHandler, UnknownNumber, Limit}
 use Rattle.ctrl_handlers.proofs.IdLemmas.{ids_stay, ids_more}
+use Rattle.ctrl_handlers.proofs.FollowLemmas.{following_control}
 
 -- a plan of nothing
 pub is_plan_start : IsPlan no_plan
@@ -32,6 +33,7 @@ is_plan_start = record {
   own_known = λ h k d lt. absurd (omega (arith, lt));
   own_differ = λ h. refl;
   added_before = λ h k d lt. absurd (omega (arith, lt));
+  follow = record { each = λ k d lt. absurd (omega (arith, lt)); once = refl };
 }
 
 -- one more handler of nothing is what stands for a handler that isn't there
@@ -58,6 +60,7 @@ is_plan_more plan is room = record {
   own_known = λ g. subst (λ (x : HandlerData). All (λ c. c < length plan.controls) x.own) (sym (with_none plan.handlers g)) (is.own_known g);
   own_differ = λ g. subst (λ (x : HandlerData). names_twice (ids_of plan.controls x.own) ≡ false) (sym (with_none plan.handlers g)) (is.own_differ g);
   added_before = λ g. subst (λ (x : HandlerData). All (λ a. a < g) x.added) (sym (with_none plan.handlers g)) (is.added_before g);
+  follow = is.follow;
 }
 
 -- the handler at a number, once one is replaced
@@ -99,6 +102,7 @@ is_plan_control plan h ctrl is within room whole new = record {
   own_known = λ g. known g (set_handler plan.handlers h g (owning (handler_at plan h) (length plan.controls)) within);
   own_differ = λ g. differ g (set_handler plan.handlers h g (owning (handler_at plan h) (length plan.controls)) within);
   added_before = λ g. before g (set_handler plan.handlers h g (owning (handler_at plan h) (length plan.controls)) within);
+  follow = following_control plan.controls ctrl plan.followers is.follow;
 }
   where
     still : (g : ℕ) → All (λ c. c < length (plan.controls ++ ctrl ∷ [])) (own plan g)
@@ -184,6 +188,7 @@ is_plan_handler plan h handler is within same before = record {
   own_known = λ g. owns g (set_handler plan.handlers h g handler within);
   own_differ = λ g. differ g (set_handler plan.handlers h g handler within);
   added_before = λ g. adds g (set_handler plan.handlers h g handler within);
+  follow = is.follow;
 }
   where
     owns : (g : ℕ)

@@ -4,6 +4,9 @@ pub use Rattle.ctrl_settle.specs.Control
 pub use Rattle.ctrl_settle.specs.Settle
 pub use Rattle.ctrl_types.specs.Flags
 pub use Rattle.menu_items.specs.Places
+pub use Rattle.reach_table.specs.Reached
+pub use Rattle.range_followers.specs.Wanted
+pub use Rattle.range_followers.specs.Followed
 pub use Rattle.id_index.specs.Entries
 pub mod HandlerData
 pub mod ClusterData

@@ -1,7 +1,7 @@
 -- What a plan holds, as plain data, and what each call of a builder adds to it (Linux driver API, "V4L2 Controls", "Control
 -- Clusters").
-use Rattle.std.specs.Prelude.{◌≡◌, ℕ, ℤ, pos, Bool, false, true, not, ◌==◌, ◌&&◌, ◌||◌, ◌<◌, ◌≤◌, List, [], ◌∷◌, ◌++◌, length, Option, None, Some, is_some, map, nat_eq, nat_lt, position, if◌then◌else◌, slice_index, slice_index_or, slice_set}
-use Rattle.std.specs.List.{All, list_any, filter, range_with_len}
+use Rattle.std.specs.Prelude.{◌≡◌, ℕ, ℤ, pos, Bool, false, true, not, ◌==◌, ◌&&◌, ◌||◌, ◌<◌, ◌≤◌, List, [], ◌∷◌, ◌++◌, length, Option, None, Some, is_some, map, nat_eq, nat_lt, position, if◌then◌else◌, slice_index, slice_index_or, slice_set, unwrap_or}
+use Rattle.std.specs.List.{All, list_any, filter, flat_map, range_with_len}
 use Rattle.std.specs.Map.{lookup}
 use Rattle.indexmap.specs.IndexMap.{insert_entry}
 use Rattle.ctrl_types.specs.declared.kind.Kind.TheVariants.{Integer}
@@ -10,20 +10,26 @@ use Rattle.ctrl_types.specs.declared.flags.Flags.{Flags}
 use Rattle.ctrl_types.specs.declared.flags.TheConstants.Flags.{UPDATE}
 use Rattle.ctrl_calls.specs.declared.relation.Relations.{Relations}
 use Rattle.ctrl_calls.specs.declared.row.TheConstants.{MAX_MEMBERS}
-use Rattle.ctrl_settle.specs.Control.{Control, is_array}
+use Rattle.ctrl_settle.specs.Control.{Control, default_of, is_array}
 use Rattle.ctrl_settle.specs.Faults.{IsWellFormed}
 use Rattle.menu_items.specs.Places.{takes}
+use Rattle.range_followers.specs.declared.follower.Follower.{Follower}
+use Rattle.range_followers.specs.declared.follower.Source.{Source}
+use Rattle.range_followers.specs.Followed.{each_followed, is_followed_by, source_of}
+use Rattle.reach_table.specs.Reached.{others_reached}
+use Rattle.range_followers.specs.Wanted.{can_follow, follower_of, unless_there, wanted_by}
 use Rattle.ctrl_handlers.specs.HandlerData.{HandlerData}
 use Rattle.ctrl_handlers.specs.ClusterData.{ClusterData}
 use Rattle.ctrl_handlers.specs.declared.limits.TheConstants.{MAX_CONTROLS, MAX_HANDLERS}
 use Rattle.menu_items.specs.declared.item.MenuItem.{MenuItem}
 
--- The controls by number, the handlers by number, the items of menus by control and index, and the clusters by number.
+-- The controls by number, the handlers by number, the items of menus by control and index, the clusters by number, and how ranges follow other controls.
 pub record PlanData : Type 0 where
   pub controls : List Control
   pub handlers : List HandlerData
   pub items : List ((ℕ × ℕ) × MenuItem)
   pub clusters : List ClusterData
+  pub followers : List Follower
 
 -- what stands for a number that names no control
 abbrev pub no_control : Control
@@ -122,14 +128,33 @@ names_twice (c ∷ cs) = list_any (nat_eq c) cs || names_twice cs
 abbrev pub crowds_array : PlanData → List ℕ → Option ℤ → Bool
 crowds_array plan members manual = (is_some manual || nat_lt 1 (length members)) && list_any (λ c. is_array (control plan c)) members
 
+-- What holds of each follower among others: its control is there and of a kind that can follow; what it follows is of such a kind, too, has a lower number, and
+-- follows nothing itself; and its control has the range that is wanted under the defaults.
+pub record IsFollowing (controls : List Control) (followers : List Follower) (f : Follower) : Type 0 where
+  pub known : f.control < length controls
+  pub follows : can_follow (control_in controls f.control).kind ≡ true
+  pub lower : (s : ℕ) → is_followed_by f s ≡ true → s < f.control
+  pub followed : (s : ℕ) → is_followed_by f s ≡ true → can_follow (control_in controls s).kind ≡ true
+  pub still : (s : ℕ) → is_followed_by f s ≡ true → is_some (follower_of followers s) ≡ false
+  pub wanted : is_some (unless_there (control_in controls f.control) (wanted_by (control_in controls f.control) (map default_of controls) f)) ≡ false
+
+-- the controls that follow, in the order of the calls
+abbrev pub following : List Follower → List ℕ
+following followers = map (λ f. f.control) followers
+
+-- What holds of all followers: this, and that no control follows twice.
+pub record AreFollowing (controls : List Control) (followers : List Follower) : Type 0 where
+  pub each : All (IsFollowing controls followers) followers
+  pub once : names_twice (following followers) ≡ false
+
 -- the ids of some controls
 abbrev pub ids_of : List Control → List ℕ → List ℕ
 ids_of controls numbers = map (λ c. (control_in controls c).id.0) numbers
 
 -- What holds of every plan: the limits, that nothing is wrong with a control, that an item stands only where its control takes it, that a
 -- cluster has members, not too many, that they are there and differ, that a control is in one cluster at most, that an array is alone in its
--- cluster, which is no auto cluster, that each handler's own controls are there and their ids differ, and that it adds only handlers with
--- smaller numbers.
+-- cluster, which is no auto cluster, that each handler's own controls are there and their ids differ, that it adds only handlers with
+-- smaller numbers, and that what follows may.
 pub record IsPlan (plan : PlanData) : Type 0 where
   pub few_controls : length plan.controls ≤ MAX_CONTROLS
   pub few_handlers : length plan.handlers ≤ MAX_HANDLERS
@@ -145,6 +170,7 @@ pub record IsPlan (plan : PlanData) : Type 0 where
   pub own_known : (h : ℕ) → All (λ c. c < length plan.controls) (own plan h)
   pub own_differ : (h : ℕ) → names_twice (ids_of plan.controls (own plan h)) ≡ false
   pub added_before : (h : ℕ) → All (λ a. a < h) (added plan h)
+  pub follow : AreFollowing plan.controls plan.followers
 
 -- What holds of a plan that is finished, besides: each control is in a cluster.
 pub record IsFinished (plan : PlanData) : Type 0 where
@@ -153,7 +179,7 @@ pub record IsFinished (plan : PlanData) : Type 0 where
 
 -- a plan of nothing
 abbrev pub no_plan : PlanData
-no_plan = record { controls = []; handlers = []; items = []; clusters = [] }
+no_plan = record { controls = []; handlers = []; items = []; clusters = []; followers = [] }
 
 -- the plan with one more handler, which shows nothing yet
 abbrev pub with_handler : PlanData → PlanData
@@ -185,6 +211,44 @@ with_item plan c index item = record plan { items = insert_entry same_place plan
 -- the plan with one more cluster, which is an auto cluster where it has a manual value
 abbrev pub with_cluster : PlanData → List ℕ → Option ℤ → Relations → PlanData
 with_cluster plan members manual calls = record plan { clusters = plan.clusters ++ record { members = members; manual = manual; calls = calls } ∷ [] }
+
+-- the cluster of each control, in their order
+abbrev pub cluster_table : PlanData → List ℕ
+cluster_table plan = map (λ c. unwrap_or (cluster_of plan c) 0) (range_with_len 0 (length plan.controls))
+
+-- a change reaches on from the cluster of what is followed to that of what follows it, by a table of the clusters
+abbrev pub link_from : List ℕ → ℕ → Option Source → List (ℕ × ℕ)
+link_from places c None = []
+link_from places c (Some source) = (slice_index places source.control, slice_index places c) ∷ []
+
+abbrev pub links_of : List ℕ → Follower → List (ℕ × ℕ)
+links_of places f = link_from places f.control f.minimum ++ (link_from places f.control f.maximum ++ link_from places f.control (source_of f.default_value))
+
+abbrev pub links : List ℕ → List Follower → List (ℕ × ℕ)
+links places followers = flat_map (links_of places) followers
+
+-- the control of a follower is among so many, and each that it follows
+abbrev pub IsAmong : ℕ → Follower → Type 0
+IsAmong count f = (f.control < count) × (each_followed (λ s. nat_lt s count) f ≡ true)
+
+abbrev pub AreAmong : ℕ → List Follower → Type 0
+AreAmong count followers = All (IsAmong count) followers
+
+-- The other clusters that a change reaches from a cluster: on and on, each with a member that follows a member of the cluster, or of one that is reached.
+abbrev pub reached_from : PlanData → ℕ → List ℕ
+reached_from plan k = others_reached (length plan.clusters) (links (cluster_table plan) plan.followers) k
+
+-- a table of these
+abbrev pub HasReach : PlanData → List (List ℕ) → Type 0
+HasReach plan table = (k : ℕ) → k < length plan.clusters → slice_index_or table k [] ≡ reached_from plan k
+
+-- a control with the range that it is wanted to have under the defaults of all
+abbrev pub wanted_at_start : List Control → Follower → Control
+wanted_at_start controls f = unwrap_or (wanted_by (control_in controls f.control) (map default_of controls) f) (control_in controls f.control)
+
+-- the plan where one control more follows others; it has the range that is wanted under the defaults
+abbrev pub with_follower : PlanData → Follower → PlanData
+with_follower plan f = record plan { controls = slice_set plan.controls f.control (wanted_at_start plan.controls f); followers = plan.followers ++ f ∷ [] }
 
 -- a cluster of one control, without closures
 abbrev pub alone : ℕ → ClusterData

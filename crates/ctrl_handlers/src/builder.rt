@@ -1,6 +1,6 @@
-ghost use Rattle.std.specs.Prelude.{◌≡◌, ◌<◌, ◌≤◌, [], true, length, vec_capacity, None, Some, IfOk, IfErr, MatchResult};
-ghost use Rattle.ctrl_handlers.specs.Plan.{IsFinished, no_plan, with_handler, with_control, with_added, with_item, with_cluster, finished, control as control_of};
-ghost use Rattle.ctrl_handlers.specs.Builder.{handler_refusal, control_refusal, adding_refusal, name_refusal, number_refusal, cluster_refusal, IsRefusedBy};
+ghost use Rattle.std.specs.Prelude.{◌≡◌, ◌<◌, ◌≤◌, [], true, length, take, vec_capacity, None, Some, IfOk, IfErr, MatchResult};
+ghost use Rattle.ctrl_handlers.specs.Plan.{IsFinished, IsPlan, HasCalls, HasClusterTable, all_calls, no_plan, with_handler, with_control, with_added, with_item, with_cluster, with_follower, finished, control as control_of};
+ghost use Rattle.ctrl_handlers.specs.Builder.{handler_refusal, control_refusal, adding_refusal, name_refusal, number_refusal, cluster_refusal, follow_refusal, IsRefusedBy};
 ghost use Rattle.menu_items.specs.Places.{takes};
 ghost use Rattle.ctrl_handlers.specs.Visible.{shown_below, AreIndexed};
 ghost use Rattle.menu_items.specs.declared.item.MenuItem.TheVariants as items;
@@ -16,6 +16,7 @@ use ctrl_calls::{Calls, Driver};
 use ctrl_settle::Ctrl;
 use id_index::IdIndex;
 use menu_items::{MenuItem, MenuName};
+use range_followers::Follower;
 use std::alloc::Global;
 use std::marker::Model;
 
@@ -173,6 +174,29 @@ impl<D: Driver> PlanBuilder<D> {
         }
     }
 
+    /// Has the range of a control follow the values of others (Linux driver API, `v4l2_ctrl_modify_range`, which a driver calls where it sets what is followed). From
+    /// here on the control has the range that it is wanted to have under the defaults of all. The plan says how ranges follow and starts so; to move one where what it
+    /// follows is set is up to the driver, by the range change that `following_ranges` asks for.
+    ///
+    /// - `follower`: an integer or an integer64 by its number, 0 to 255, and which of its minimum, its maximum and its default follow the value of another integer or
+    ///   integer64, with a number that is added. What is followed has a lower number and follows nothing itself, the control isn't followed and follows only once, and
+    ///   something is followed.
+    ///
+    /// Refused by the checks 58, `UnknownNumber` (5), 59, `CannotFollow` (9), and 49, `Memory` (7), of docs/RULES.md, in this order; a refusal leaves the plan as it
+    /// was.
+    pub fn follow(&mut self, follower: &Follower) -> Result<(), PlanFault>
+        ensures ok { IfOk result (λ _. (follow_refusal self.old follower.now ≡ None) × (self.new ≡ with_follower self.old follower.now)) }
+        ensures err { IfErr result (λ fault. IsRefusedBy (follow_refusal self.old follower.now) fault × (self.new ≡ self.old)) }
+    {
+        if let Some(fault) = self.outline.follow_refusal(follower) {
+            return Err(fault);
+        }
+        match self.outline.add_follower(self.alloc, follower) {
+            Ok(()) => Ok(()),
+            Err(_) => Err(PlanFault::Memory),
+        }
+    }
+
     /// Makes a cluster, and answers its number, from 0 in the order of the cluster calls (Linux driver API, "V4L2 Controls",
     /// "Control Clusters"). A control that no call names is a cluster of its own without closures, once the plan is finished.
     ///
@@ -294,10 +318,11 @@ impl<D: Driver> PlanBuilder<D> {
             calls,
             alloc,
         } = self;
+        let named = outline.cluster_count() as usize;
         match outline.cluster_rest() {
             Ok(()) => {
                 outline.cluster_places(&mut clusters);
-                Ok(Plan::of_parts(outline, calls, shown, index, clusters))
+                Self::finish_clustered(outline, named, calls, shown, index, clusters, alloc)
             }
             Err(_) => Err((
                 PlanBuilder {
@@ -307,6 +332,42 @@ impl<D: Driver> PlanBuilder<D> {
                 },
                 PlanFault::Memory,
             )),
+        }
+    }
+
+    // The plan of which each control is in a cluster; where there is no room for what is reached, the builder with the clusters that were named.
+    fn finish_clustered(
+        mut outline: Outline,
+        named: usize,
+        calls: Vec<Calls<D>>,
+        shown: Vec<NumberList>,
+        index: Vec<IdIndex>,
+        clusters: Vec<u32>,
+        alloc: Global,
+    ) -> Result<Plan<D>, (PlanBuilder<D>, PlanFault)>
+        requires finished { IsFinished outline }
+        requires named { IsPlan (record outline { clusters = take named outline.clusters }) }
+        requires own { calls.items ≡ all_calls (record outline { clusters = take named outline.clusters }) }
+        requires calls { HasCalls outline calls.items }
+        requires shown { shown.items ≡ shown_below outline (length outline.handlers) }
+        requires index { AreIndexed outline.controls shown.items index.items }
+        requires clusters { HasClusterTable outline clusters.items }
+        ensures ok { IfOk result (λ plan. plan ≡ outline) }
+        ensures err { IfErr result (λ e. (e.0 ≡ record outline { clusters = take named outline.clusters }) × (e.1 ≡ Memory)) }
+    {
+        match outline.reach_table(alloc, clusters.as_slice()) {
+            Ok(reach) => Ok(Plan::of_parts(outline, calls, shown, index, clusters, reach)),
+            Err(_) => {
+                outline.leave_clusters(named);
+                Err((
+                    PlanBuilder {
+                        outline,
+                        calls,
+                        alloc,
+                    },
+                    PlanFault::Memory,
+                ))
+            }
         }
     }
 }

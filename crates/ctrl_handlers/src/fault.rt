@@ -29,6 +29,9 @@ pub enum PlanFault {
     /// 8: an array stands alone in its cluster, which is no auto cluster.
     #[error("an array stands alone in its cluster, which is no auto cluster")]
     ArrayAlone,
+    /// 9: the control can't follow these, or nothing is followed.
+    #[error("the range can't follow these controls")]
+    CannotFollow,
 }
 
 impl PlanFault {
@@ -47,6 +50,7 @@ impl PlanFault {
             PlanFault::Limit => 6,
             PlanFault::Memory => 7,
             PlanFault::ArrayAlone => 8,
+            PlanFault::CannotFollow => 9,
         }
     }
 }

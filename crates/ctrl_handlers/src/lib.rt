@@ -5,12 +5,14 @@
 mod builder;
 mod cluster;
 mod fault;
+mod following;
 mod handler;
 pub mod laws;
 mod limits;
 mod numbers;
 mod outline;
 mod plan;
+mod reaching;
 mod showing;
 
 pub use builder::PlanBuilder;
@@ -18,3 +20,4 @@ pub use fault::PlanFault;
 pub use limits::{MAX_CONTROLS, MAX_HANDLERS};
 pub use menu_items::{MAX_MENU_NAME, MenuItem, MenuName};
 pub use plan::Plan;
+pub use range_followers::{DefaultSource, Follower, Source};

@@ -1,6 +1,6 @@
-ghost use Rattle.std.specs.Prelude.{◌≡◌, ◌==◌, ◌<◌, ◌≤◌, ◌+◌, ℕ, true, false, if◌then◌else◌, [], ◌∷◌, ◌++◌, map, length, vec_capacity, None, Some, is_some, nat_lt, OnOk, OnErr, MatchOption, position, IfOk, IfSome, IsTrue, ◌↔◌};
-ghost use Rattle.ctrl_handlers.specs.Plan.{IsPlan, IsFinished, no_plan, with_handler, with_control, with_added, with_item, with_cluster, finished, in_none, alone, control as control_of, control_in, own, added, menu_item, cluster_of, cluster_at, members, has_member, plan_flags, names_twice, crowds_array, HasClusterTable};
-ghost use Rattle.ctrl_handlers.specs.Builder.{control_refusal, adding_refusal, name_refusal, number_refusal, cluster_refusal};
+ghost use Rattle.std.specs.Prelude.{◌≡◌, ◌==◌, ◌<◌, ◌≤◌, ◌+◌, ℕ, true, false, if◌then◌else◌, [], ◌∷◌, ◌++◌, map, length, vec_capacity, None, Some, is_some, nat_lt, take, OnOk, OnErr, MatchOption, position, IfOk, IfSome, IsTrue, ◌↔◌};
+ghost use Rattle.ctrl_handlers.specs.Plan.{IsPlan, IsFinished, no_plan, with_handler, with_control, with_added, with_item, with_cluster, with_follower, finished, in_none, alone, control as control_of, control_in, own, added, menu_item, cluster_of, cluster_at, members, has_member, plan_flags, names_twice, crowds_array, HasClusterTable, HasReach};
+ghost use Rattle.ctrl_handlers.specs.Builder.{control_refusal, adding_refusal, name_refusal, number_refusal, cluster_refusal, follow_refusal};
 ghost use Rattle.ctrl_settle.specs.Control.{is_array};
 ghost use Rattle.ctrl_settle.specs.Faults.{IsWellFormed};
 ghost use Rattle.menu_items.specs.Places.{takes};
@@ -10,9 +10,11 @@ ghost use Rattle.ctrl_handlers.specs.Visible.{first_with_id, shown_over, shown_b
 
 use crate::cluster::Cluster;
 use crate::fault::PlanFault;
+use crate::following::{is_known, may_follow, wanted_at_start};
 use crate::handler::Handler;
 use crate::limits::{MAX_CONTROLS, MAX_HANDLERS};
 use crate::numbers::NumberList;
+use crate::reaching::reach_table;
 use crate::showing::{bring_added, first_with_id};
 use bitflags::Flags as FlagSet;
 use ctrl_calls::{MAX_MEMBERS, Relations};
@@ -20,6 +22,8 @@ use ctrl_settle::Ctrl;
 use ctrl_types::Flags;
 use indexmap::IndexMap;
 use menu_items::{MAX_MENU_NAME, MenuItem, takes_name, takes_number};
+use range_followers::Follower;
+use reach_table::ReachTable;
 use std::alloc::{AllocError, Global};
 use std::marker::Model;
 
@@ -31,6 +35,8 @@ pub struct Outline {
     // the items of menus, by control and index
     items: IndexMap<(u32, u32), MenuItem>,
     clusters: Vec<Cluster>,
+    // how ranges follow, in the order of the calls
+    followers: Vec<Follower>,
 }
 
 impl Model for Outline {
@@ -38,9 +44,9 @@ impl Model for Outline {
 
     ghost Value = { PlanData };
 
-    ghost view = { λ p. record { controls = p.controls.items; handlers = p.handlers.items; items = p.items.entries; clusters = p.clusters.items } };
+    ghost view = { λ p. record { controls = p.controls.items; handlers = p.handlers.items; items = p.items.entries; clusters = p.clusters.items; followers = p.followers.items } };
 
-    ghost invariant = { λ p. IsPlan (record { controls = p.controls.items; handlers = p.handlers.items; items = p.items.entries; clusters = p.clusters.items }) };
+    ghost invariant = { λ p. IsPlan (record { controls = p.controls.items; handlers = p.handlers.items; items = p.items.entries; clusters = p.clusters.items; followers = p.followers.items }) };
 }
 
 impl Outline {
@@ -53,6 +59,7 @@ impl Outline {
             handlers: Vec::new(alloc),
             items: IndexMap::new(alloc),
             clusters: Vec::new(alloc),
+            followers: Vec::new(alloc),
         }
     }
 
@@ -225,6 +232,75 @@ impl Outline {
         Ok(())
     }
 
+    /// Why a control can't follow so, memory apart.
+    pub(crate) fn follow_refusal(&self, follower: &Follower) -> Option<PlanFault>
+        ensures { result ≡ follow_refusal self.now follower.now }
+    {
+        if !is_known(follower, self.control_count()) {
+            return Some(PlanFault::UnknownNumber);
+        }
+        if !may_follow(
+            self.controls.as_slice(),
+            self.followers.as_slice(),
+            follower,
+        ) {
+            return Some(PlanFault::CannotFollow);
+        }
+        None
+    }
+
+    /// Has a control follow others.
+    pub(crate) fn add_follower(
+        &mut self,
+        alloc: Global,
+        follower: &Follower,
+    ) -> Result<(), AllocError>
+        requires { follow_refusal self.old follower.now ≡ None }
+        ensures ok { OnOk result (self.new ≡ with_follower self.old follower.now) }
+        ensures err { OnErr result (self.new ≡ self.old) }
+    {
+        let wanted = wanted_at_start(alloc, self.controls.as_slice(), follower)?;
+        self.followers.reserve(1)?;
+        self.controls[follower.control as usize] = wanted;
+        self.followers.push_reserved(*follower);
+        Ok(())
+    }
+
+    /// How ranges follow, in the order of the calls.
+    pub(crate) fn followers(&self) -> &[Follower]
+        ensures { result.now ≡ self.now.followers }
+    {
+        self.followers.as_slice()
+    }
+
+    /// Leaves the first clusters alone. The caller owes that a plan with these is one.
+    pub(crate) fn leave_clusters(&mut self, count: usize)
+        requires { IsPlan (record self.old { clusters = take count self.old.clusters }) }
+        ensures { self.new ≡ record self.old { clusters = take count self.old.clusters } }
+    {
+        self.clusters.truncate(count);
+    }
+
+    /// What is reached on from each cluster of a finished plan.
+    ///
+    /// - `places`: the cluster of each control.
+    pub(crate) fn reach_table(
+        &self,
+        alloc: Global,
+        places: &[u32],
+    ) -> Result<ReachTable, AllocError>
+        requires finished { IsFinished self.now }
+        requires places { HasClusterTable self.now places.now }
+        ensures { IfOk result (HasReach self.now) }
+    {
+        reach_table(
+            alloc,
+            self.followers.as_slice(),
+            places,
+            self.cluster_count(),
+        )
+    }
+
     /// The item of a menu at an index.
     pub(crate) fn item(&self, control: u32, index: u32) -> Option<&MenuItem>
         ensures { MatchOption result (menu_item self.now control index ≡ None) (λ item. menu_item self.now control index ≡ Some item.now) }
@@ -271,6 +347,7 @@ impl Outline {
     pub(crate) fn cluster_count(&self) -> u32
         ensures count { result ≡ length self.now.clusters }
         ensures within { result ≤ length self.now.controls }
+        ensures plan { IsPlan self.now }
     {
         self.clusters.len() as u32
     }

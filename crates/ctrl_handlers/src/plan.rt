@@ -3,6 +3,7 @@ ghost use Rattle.std.specs.List.{All};
 ghost use Rattle.ctrl_types.specs.declared.errno.Errno.TheVariants.{EINVAL};
 ghost use Rattle.ctrl_handlers.specs.Plan.{IsPlan, IsFinished, control as control_of, menu_item, cluster_of, cluster_at, calls_of, no_calls, members, names_twice, plan_flags};
 ghost use Rattle.ctrl_calls.specs.declared.row.TheConstants.{MAX_MEMBERS};
+ghost use Rattle.range_followers.specs.Wanted.{follower_of as first_follower};
 ghost use Rattle.ctrl_handlers.specs.Visible.{visible, find as find_in, next_id};
 
 use crate::limits::{MAX_CONTROLS, MAX_HANDLERS};
@@ -13,6 +14,8 @@ use ctrl_settle::Ctrl;
 use ctrl_types::{CtrlId, Errno, Flags};
 use id_index::IdIndex;
 use menu_items::MenuItem;
+use range_followers::{Follower, follower_of};
+use reach_table::ReachTable;
 use std::marker::Model;
 
 /// What a device is built of: its controls, its handlers, the items of its menus and its clusters, with the driver's closures
@@ -28,18 +31,20 @@ pub struct Plan<D: Driver> {
     index: Vec<IdIndex>,
     // the cluster of each control
     clusters: Vec<u32>,
+    // the others that a change reaches on from each cluster
+    reach: ReachTable,
 }
 
 impl<D: Driver> Model for Plan<D> {
     ghost use Rattle.std.specs.Prelude.{◌≡◌, length};
-    ghost use Rattle.ctrl_handlers.specs.Plan.{PlanData, IsFinished, HasCalls, HasClusterTable};
+    ghost use Rattle.ctrl_handlers.specs.Plan.{PlanData, IsFinished, HasCalls, HasClusterTable, HasReach};
     ghost use Rattle.ctrl_handlers.specs.Visible.{shown_below, AreIndexed};
 
     ghost Value = { PlanData };
 
     ghost view = { λ p. p.outline };
 
-    ghost invariant = { λ p. IsFinished p.outline × HasCalls p.outline p.calls.items × (p.shown.items ≡ shown_below p.outline (length p.outline.handlers)) × AreIndexed p.outline.controls p.shown.items p.index.items × HasClusterTable p.outline p.clusters.items };
+    ghost invariant = { λ p. IsFinished p.outline × HasCalls p.outline p.calls.items × (p.shown.items ≡ shown_below p.outline (length p.outline.handlers)) × AreIndexed p.outline.controls p.shown.items p.index.items × HasClusterTable p.outline p.clusters.items × HasReach p.outline p.reach };
 }
 
 impl<D: Driver> Drop for Plan<D> {
@@ -50,12 +55,13 @@ impl<D: Driver> Drop for Plan<D> {
             shown: _,
             index: _,
             clusters: _,
+            reach: _,
         } = self;
     }
 }
 
 impl<D: Driver> Plan<D> {
-    ghost use Rattle.ctrl_handlers.specs.Plan.{HasCalls, HasClusterTable};
+    ghost use Rattle.ctrl_handlers.specs.Plan.{HasCalls, HasClusterTable, HasReach, reached_from};
     ghost use Rattle.ctrl_handlers.specs.Visible.{shown_below, AreIndexed};
 
     /// The plan of these parts.
@@ -65,12 +71,14 @@ impl<D: Driver> Plan<D> {
         shown: Vec<NumberList>,
         index: Vec<IdIndex>,
         clusters: Vec<u32>,
+        reach: ReachTable,
     ) -> Plan<D>
         requires finished { IsFinished outline }
         requires calls { HasCalls outline calls.items }
         requires shown { shown.items ≡ shown_below outline (length outline.handlers) }
         requires index { AreIndexed outline.controls shown.items index.items }
         requires clusters { HasClusterTable outline clusters.items }
+        requires reach { HasReach outline reach }
         ensures { result ≡ outline }
     {
         Plan {
@@ -79,6 +87,7 @@ impl<D: Driver> Plan<D> {
             shown,
             index,
             clusters,
+            reach,
         }
     }
 
@@ -235,6 +244,31 @@ impl<D: Driver> Plan<D> {
         ensures { result ≡ (cluster_at self.now cluster).manual }
     {
         self.outline.manual(cluster)
+    }
+
+    /// How ranges follow other controls, in the order of the builder's calls (of this project).
+    pub fn followers(&self) -> &[Follower]
+        ensures { result.now ≡ self.now.followers }
+    {
+        self.outline.followers()
+    }
+
+    /// How a control follows others, where it does (of this project).
+    ///
+    /// - `control`: any number.
+    pub fn follower(&self, control: u32) -> Option<Follower>
+        ensures { result ≡ first_follower self.now.followers control }
+    {
+        follower_of(self.followers(), control)
+    }
+
+    /// The other clusters that a change reaches on from a cluster, in rising order: on and on, each with a member that follows a member of the cluster, or of one that
+    /// is reached (of this project). The caller owes a cluster's number, below `cluster_count`.
+    pub fn reached(&self, cluster: u32) -> &[u32]
+        requires { cluster < length self.now.clusters }
+        ensures { result.now ≡ reached_from self.now cluster }
+    {
+        self.reach.others(cluster)
     }
 
     /// The flags that a control has by the plan: those that it was described with, and UPDATE where it is the master of an auto

@@ -2,7 +2,7 @@
 use Rattle.std.proofs.Common.{◌≡◌, ◌∙◌, Option, Some, None, Result, Ok, Err, refl, ap, sym, subst}
 use Rattle.ctrl_handlers.specs.Builder.{IsRefusedBy}
 use Rattle.ctrl_handlers.specs.declared.fault.PlanFault.{PlanFault}
-use Rattle.ctrl_handlers.specs.declared.fault.PlanFault.TheVariants.{ArrayAlone, ClusterSize, DuplicateId, InCluster, LaterHandler, Limit, Memory, UnknownNumber}
+use Rattle.ctrl_handlers.specs.declared.fault.PlanFault.TheVariants.{ArrayAlone, CannotFollow, ClusterSize, DuplicateId, InCluster, LaterHandler, Limit, Memory, UnknownNumber}
 use Rattle.file_faults.specs.declared.fault.KeyFault.{KeyFault}
 use Rattle.device_file.specs.Refusals.{refused, unless_refused}
 use Rattle.device_file.specs.Stops.{Stops}
@@ -11,6 +11,7 @@ use Rattle.device_file.specs.declared.stop.ReadError.{ReadError}
 stops_by : (A : Type 0) (fault_of : PlanFault → KeyFault) (refusal : PlanFault) → Stops {A = A} (Err (fault_of refusal)) (refused fault_of refusal)
 stops_by A fault_of Memory = tt
 stops_by A fault_of ArrayAlone = refl
+stops_by A fault_of CannotFollow = refl
 stops_by A fault_of ClusterSize = refl
 stops_by A fault_of DuplicateId = refl
 stops_by A fault_of InCluster = refl

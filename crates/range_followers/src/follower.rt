@@ -1,4 +1,5 @@
-ghost use Rattle.std.specs.Prelude.{◌≡◌};
+ghost use Rattle.std.specs.Prelude.{◌≡◌, nat_eq, not};
+ghost use Rattle.range_followers.specs.Followed.{passes};
 ghost use Rattle.range_followers.specs.Wanted.{value_at};
 
 use ctrl_types::CtrlValue;
@@ -35,6 +36,20 @@ pub enum DefaultSource {
     Value(Source),
 }
 
+impl DefaultSource {
+    ghost use Rattle.range_followers.specs.Followed.{source_of};
+
+    /// What the default follows, if anything (of this project).
+    pub fn source(self) -> Option<Source>
+        ensures { result ≡ source_of self }
+    {
+        match self {
+            DefaultSource::Number(_) => None,
+            DefaultSource::Value(source) => Some(source),
+        }
+    }
+}
+
 /// A control whose range follows others: an integer or an integer64. A bound without a source stays as it is (of this project).
 #[derive(Clone, Copy)]
 pub struct Follower {
@@ -46,6 +61,38 @@ pub struct Follower {
     pub maximum: Option<Source>,
     /// What the default is nearest to.
     pub default_value: DefaultSource,
+}
+
+impl Follower {
+    ghost use Rattle.range_followers.specs.Followed.{is_followed_by, follows_any};
+
+    /// Whether it follows a control (of this project).
+    ///
+    /// - `control`: any number.
+    pub fn follows(&self, control: u32) -> bool
+        ensures { result ≡ is_followed_by self.now control }
+    {
+        is_of(self.minimum, control)
+            || is_of(self.maximum, control)
+            || is_of(self.default_value.source(), control)
+    }
+
+    /// Whether it follows any control (of this project).
+    pub fn follows_any(&self) -> bool
+        ensures { result ≡ follows_any self.now }
+    {
+        self.minimum.is_some() || self.maximum.is_some() || self.default_value.source().is_some()
+    }
+}
+
+// Whether this control is followed.
+fn is_of(source: Option<Source>, control: u32) -> bool
+    ensures { result ≡ not (passes (λ s. not (nat_eq s control)) source) }
+{
+    match source {
+        Some(source) => source.control == control,
+        None => false,
+    }
 }
 
 // The value of a control; 0 where it isn't there.

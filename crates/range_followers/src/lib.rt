@@ -6,4 +6,6 @@ mod follower;
 mod wanted;
 
 pub use follower::{DefaultSource, Follower, Source};
-pub use wanted::{can_follow, have_moved, range_due, range_wanted, wanted_range};
+pub use wanted::{
+    can_follow, follower_of, have_moved, range_due, range_wanted, wanted_by, wanted_range,
+};

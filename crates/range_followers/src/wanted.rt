@@ -138,8 +138,13 @@ fn value_moved(source: Source, before: &[CtrlValue], after: &[CtrlValue]) -> boo
     !value_at(before, source.control).is_same(&value_at(after, source.control))
 }
 
-// How a control follows, where it does.
-fn follower_of(followers: &[Follower], control: u32) -> Option<Follower>
+/// How a control follows, where it does (of this project).
+///
+/// - `followers`: how controls follow others. Of two of one number the first counts.
+/// - `control`: any number.
+///
+/// It takes no memory.
+pub fn follower_of(followers: &[Follower], control: u32) -> Option<Follower>
     ensures { result ≡ first_follower followers.now control }
 {
     for follower in followers {
@@ -150,8 +155,15 @@ fn follower_of(followers: &[Follower], control: u32) -> Option<Follower>
     None
 }
 
-// The range that is wanted, where this is how the control follows.
-fn wanted_by(ctrl: &Ctrl, values: &[CtrlValue], follower: &Follower) -> Option<Ctrl>
+/// A control with the range that it is wanted to have under some values, where this is how it follows, as `range_wanted` says; none where it is neither an integer
+/// nor an integer64 (of this project).
+///
+/// - `ctrl`: the control with its range of the moment.
+/// - `values`: a value for each control, in the order of their numbers.
+/// - `follower`: how the control follows; the control that it names doesn't matter.
+///
+/// It takes no memory.
+pub fn wanted_by(ctrl: &Ctrl, values: &[CtrlValue], follower: &Follower) -> Option<Ctrl>
     ensures range { result ≡ wanted_range_by ctrl.now values.now follower.now }
     ensures well_formed { IfSome result IsWellFormed }
 {

@@ -52,6 +52,7 @@ const CASES: &[Case] = &[
     Case::Check(Check::RangeStepZero, 55, Some(36), Errno::ERANGE),
     Case::Control(CtrlFault::KindBounds, 4),
     Case::Plan(PlanFault::ArrayAlone, 8),
+    Case::Plan(PlanFault::CannotFollow, 9),
     Case::Which(0, Ok(Which::Current)),
     Case::Which(0x0f00_0000, Ok(Which::Defaults)),
     Case::Which(0x0f01_0000, Ok(Which::Request)),

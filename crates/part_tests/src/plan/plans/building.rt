@@ -1,7 +1,7 @@
 // A builder's calls as data, and the plans that are built of them.
 use super::closures::{Alike, are, closures};
 use bitflags::Flags as FlagSet;
-use ctrl_handlers::{Plan, PlanBuilder, PlanFault};
+use ctrl_handlers::{DefaultSource, Follower, Plan, PlanBuilder, PlanFault, Source};
 use ctrl_settle::Ctrl;
 use ctrl_types::{CtrlId, Flags, Kind};
 use std::alloc::Global;
@@ -25,6 +25,8 @@ pub enum Call {
     // the closures' number is the master's, and one more
     Cluster(&'static [u32]),
     Auto(&'static [u32], i64),
+    // its control; what its minimum and its maximum follow, each with a number that is added; and what its default is nearest to
+    Follow(u32, Option<(u32, i64)>, Option<(u32, i64)>, i64),
 }
 
 fn number(rt: &impl Abort, id: u32, is_private: bool) -> Ctrl {
@@ -62,6 +64,19 @@ pub fn answer(
         Call::Number(control, index, number) => done(builder.menu_number(control, index, number)),
         Call::Cluster(members) => cluster(rt, builder, called, members, None),
         Call::Auto(members, manual) => cluster(rt, builder, called, members, Some(manual)),
+        Call::Follow(control, minimum, maximum, default_value) => done(builder.follow(&Follower {
+            control,
+            minimum: source(minimum),
+            maximum: source(maximum),
+            default_value: DefaultSource::Number(default_value),
+        })),
+    }
+}
+
+fn source(follows: Option<(u32, i64)>) -> Option<Source> {
+    match follows {
+        Some((control, plus)) => Some(Source { control, plus }),
+        None => None,
     }
 }
 

@@ -24,6 +24,9 @@ pub enum Look {
     Flags(u32, u32),
     Name(u32, u32, Option<&'static str>),
     Number(u32, u32, Option<i64>),
+    // a control's minimum, maximum and default, and whether it follows
+    Range(u32, (i64, i64, i64), bool),
+    Reached(u32, &'static [u32]),
 }
 
 pub const UPDATE: u32 = 0x8;
@@ -42,6 +45,14 @@ fn shows(plan: &Plan<Alike>, called: &Arc<AtomicU64>, look: Look) -> bool {
         }
         Look::Name(control, index, want) => name_of(plan, control, index) == want,
         Look::Number(control, index, want) => number_of(plan, control, index) == want,
+        Look::Range(control, want, follows) => {
+            control < plan.control_count()
+                && range_of(plan, control) == want
+                && plan.follower(control).is_some() == follows
+        }
+        Look::Reached(cluster, want) => {
+            cluster < plan.cluster_count() && plan.reached(cluster) == want
+        }
     }
 }
 
@@ -72,6 +83,14 @@ fn number_of(plan: &Plan<Alike>, control: u32, index: u32) -> Option<i64> {
     match plan.menu_item(control, index) {
         Ok(MenuItem::Number(number)) => Some(*number),
         _ => None,
+    }
+}
+
+// The caller has seen that the control is there.
+fn range_of(plan: &Plan<Alike>, control: u32) -> (i64, i64, i64) {
+    match plan.controls().get(control as usize) {
+        Some(ctrl) => (ctrl.minimum(), ctrl.maximum(), ctrl.default_value()),
+        None => (0, 0, 0),
     }
 }
 

@@ -45,6 +45,75 @@ fn arrays_alone(rt: HostRuntime) {
     holds(&rt, rt.alloc(), ARRAYS, ARRAYS_FOUND);
 }
 
+// Controls of 0 to 9. What follows nothing, isn't there or is no integer doesn't follow, nor what follows already, is followed, or follows one that isn't lower.
+const FOLLOWERS: &[(Call, Result<u32, PlanFault>)] = &[
+    (Call::Handler, Ok(0)),
+    (Call::Control(0, 0, false), Ok(0)),
+    (Call::Control(0, 1, false), Ok(1)),
+    (Call::Control(0, 2, false), Ok(2)),
+    (Call::Control(0, 3, false), Ok(3)),
+    (Call::Menu(0, 4, Kind::Menu), Ok(4)),
+    (Call::Control(0, 5, false), Ok(5)),
+    (Call::Follow(1, None, None, 3), Err(PlanFault::CannotFollow)),
+    (
+        Call::Follow(6, Some((0, 0)), None, 3),
+        Err(PlanFault::UnknownNumber),
+    ),
+    (
+        Call::Follow(1, Some((6, 0)), None, 3),
+        Err(PlanFault::UnknownNumber),
+    ),
+    (
+        Call::Follow(1, Some((1, 0)), None, 3),
+        Err(PlanFault::CannotFollow),
+    ),
+    (
+        Call::Follow(1, Some((0, 0)), Some((2, 0)), 3),
+        Err(PlanFault::CannotFollow),
+    ),
+    (
+        Call::Follow(4, Some((0, 0)), None, 3),
+        Err(PlanFault::CannotFollow),
+    ),
+    (
+        Call::Follow(5, None, Some((4, 0)), 3),
+        Err(PlanFault::CannotFollow),
+    ),
+    (Call::Follow(2, None, Some((0, 4)), 7), Ok(0)),
+    (Call::Follow(3, Some((1, 2)), None, 1), Ok(0)),
+    (
+        Call::Follow(2, Some((0, 0)), None, 7),
+        Err(PlanFault::CannotFollow),
+    ),
+    (
+        Call::Follow(5, Some((2, 0)), None, 7),
+        Err(PlanFault::CannotFollow),
+    ),
+    (
+        Call::Follow(1, Some((0, 0)), None, 7),
+        Err(PlanFault::CannotFollow),
+    ),
+    (Call::Cluster(&[0, 5]), Ok(0)),
+    (Call::Cluster(&[2, 1]), Ok(1)),
+];
+
+// What is set in the first cluster reaches the second, since 2 follows 0, and on from there that of 3, which follows 1.
+const FOLLOWERS_FOUND: &[Look] = &[
+    Look::Range(0, (0, 9, 0), false),
+    Look::Range(1, (0, 9, 0), false),
+    Look::Range(2, (0, 4, 4), true),
+    Look::Range(3, (2, 9, 2), true),
+    Look::Reached(0, &[1, 2]),
+    Look::Reached(1, &[2]),
+    Look::Reached(2, &[]),
+    Look::Reached(3, &[]),
+];
+
+#[test]
+fn followers(rt: HostRuntime) {
+    holds(&rt, rt.alloc(), FOLLOWERS, FOLLOWERS_FOUND);
+}
+
 // the first item makes room for others, and a name needs memory of its own; two clusters are refused, and their closures handed back
 const ALL: &[(Call, Result<u32, PlanFault>)] = &[
     (Call::Handler, Ok(0)),
@@ -58,6 +127,7 @@ const ALL: &[(Call, Result<u32, PlanFault>)] = &[
     (Call::Menu(1, 6, Kind::Menu), Ok(6)),
     (Call::Menu(1, 7, Kind::IntegerMenu), Ok(7)),
     (Call::Add(1, 0), Ok(0)),
+    (Call::Follow(4, None, Some((1, 5)), 9), Ok(0)),
     (Call::Number(7, 1, -7), Ok(0)),
     (Call::Name(6, 1, "50 Hz"), Ok(0)),
     (Call::Cluster(&[5, 4]), Ok(0)),
@@ -88,6 +158,8 @@ const ALL_FOUND: &[Look] = &[
     Look::Next(1, 5, Ok(CtrlId(6))),
     Look::Name(6, 1, Some("50 Hz")),
     Look::Number(7, 1, Some(-7)),
+    Look::Range(4, (0, 5, 5), true),
+    Look::Reached(3, &[0]),
 ];
 
 // The plan has these looks where nothing is refused.

@@ -1,0 +1,2 @@
+mod ReachLemmas
+mod CountLemmas
