@@ -6,3 +6,4 @@ pub mod NewRowLemmas
 pub mod OverlayLemmas
 pub mod NotifyLemmas
 pub mod ControlLemmas
+pub mod FollowingLemmas

@@ -5,6 +5,8 @@ pub use Rattle.ctrl_calls.specs.Meanings
 pub use Rattle.ctrl_calls.specs.Counts
 pub use Rattle.ctrl_settle.specs.Control
 pub use Rattle.ctrl_settle.specs.Settle
+pub use Rattle.range_followers.specs.Wanted
+pub use Rattle.range_followers.specs.Followed
 pub use Rattle.ctrl_handlers.specs.HandlerData
 pub use Rattle.ctrl_handlers.specs.ClusterData
 pub use Rattle.ctrl_handlers.specs.Plan
@@ -20,4 +22,5 @@ pub mod Changes
 pub mod Notified
 pub mod PresentFlags
 pub mod ControlsData
+pub mod Following
 pub mod Moments
