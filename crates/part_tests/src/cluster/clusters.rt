@@ -2,6 +2,7 @@
 
 mod arrays;
 mod changed;
+mod following;
 mod judged;
 mod lending;
 mod looks;

@@ -1,4 +1,6 @@
 // What a plan is asked at values, as data.
+ghost use Rattle.std.specs.Prelude.{◌<◌, length};
+
 use super::planning::{Made, Named, plan_of};
 use super::rows::is_work;
 use crate::cluster::common::controls_of;
@@ -6,7 +8,9 @@ use crate::cluster::driver::Strict;
 use crate::values::{are_numbers, is_row, pairs_of, row_of};
 use bitflags::Flags as FlagSet;
 use ctrl_calls::{ClusterRow, RowValues, Work};
-use ctrl_clusters::{Moment, flags_under, inactive, judge, present_row, read_row, validated_row};
+use ctrl_clusters::{
+    Moment, flags_under, inactive, judge, present_row, range_at, read_row, validated_row,
+};
 use ctrl_forecast::overlay;
 use ctrl_types::{CtrlValue, Errno, Pair};
 use std::alloc::{AllocError, Global};
@@ -26,6 +30,8 @@ pub enum Look {
     Inactive(u32, bool),
     // the flags of a control under grabs
     Flags(u32, &'static [bool], u32),
+    // the minimum and the maximum that the values give a control
+    Range(u32, i64, i64),
     // under grabs pairs are laid over the values: the values then, the clusters that are refused, and how many validators are asked
     Lays(&'static [bool], &'static [(u32, i64)], &'static [i64], &'static [u32], u64),
 }
@@ -99,6 +105,13 @@ fn has_flags(at: &Moment<Strict>, control: u32, want: u32) -> bool {
     control < at.plan.control_count() && flags_under(at, control).bits() == want
 }
 
+fn has_range(at: &Moment<Strict>, control: u32, want: (i64, i64)) -> bool
+    requires { control < length at.now.plan.now.controls }
+{
+    let ctrl = range_at(at, control);
+    (ctrl.minimum(), ctrl.maximum()) == want
+}
+
 fn lays(
     alloc: Global,
     at: &Moment<Strict>,
@@ -126,6 +139,9 @@ fn shows(alloc: Global, at: &Moment<Strict>, look: Look) -> Result<bool, Fail> {
             Some(held) => has_flags(&held, control, want),
             None => false,
         },
+        Look::Range(control, minimum, maximum) => {
+            control < at.plan.control_count() && has_range(at, control, (minimum, maximum))
+        }
         Look::Lays(grabs, asked, want, refused, count) => {
             let pairs = pairs_of(alloc, asked)?;
             match under(at, grabs) {

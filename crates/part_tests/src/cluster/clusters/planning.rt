@@ -2,7 +2,7 @@
 use crate::cluster::driver::{Judge, Says, Strict, relation};
 use bitflags::Flags as FlagSet;
 use ctrl_calls::{Calls, Notifier, Validator};
-use ctrl_handlers::{Plan, PlanBuilder};
+use ctrl_handlers::{DefaultSource, Follower, Plan, PlanBuilder, Source};
 use ctrl_settle::Ctrl;
 use ctrl_types::{CtrlId, Flags, Kind};
 use std::alloc::Global;
@@ -20,6 +20,8 @@ pub enum Made {
     Acting,
     // an array of 2 bytes, each 0, 10, .. 250
     Array,
+    // a number of 0 to 255 whose maximum follows a control, with a number that is added
+    Following(u32, i64),
 }
 
 /// Clusters that it has.
@@ -42,7 +44,7 @@ fn control(id: u32, made: Made) -> Result<Ctrl, Fail> {
         };
     }
     let (kind, maximum, step, flags) = match made {
-        Made::Byte => (Kind::Integer, 255, 1, none),
+        Made::Byte | Made::Following(_, _) => (Kind::Integer, 255, 1, none),
         Made::Button | Made::Array => (Kind::Button, 0, 0, none),
         Made::Acting => (Kind::Integer, 255, 1, Flags::EXECUTE_ON_WRITE),
     };
@@ -106,8 +108,19 @@ pub fn plan_of(
     let handler = builder.handler()?;
     let mut id: u32 = 0;
     for &made in made {
-        builder.control(handler, control(id, made)?)?;
+        let number = builder.control(handler, control(id, made)?)?;
         id = id.wrapping_add(1);
+        if let Made::Following(followed, plus) = made {
+            builder.follow(&Follower {
+                control: number,
+                minimum: None,
+                maximum: Some(Source {
+                    control: followed,
+                    plus,
+                }),
+                default_value: DefaultSource::Number(0),
+            })?;
+        }
     }
     for named in named {
         let notifier = notifier(alloc, *named, &all, heard)?;
