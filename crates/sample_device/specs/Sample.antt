@@ -56,6 +56,7 @@ first_controls = record {
   handlers = record { own = 0 ∷ 1 ∷ 2 ∷ 3 ∷ 4 ∷ []; added = [] } ∷ no_handler ∷ [];
   items = [];
   clusters = [];
+  followers = [];
 }
 
 -- The sample device's handlers and controls. Handler 1 has brightness, power, button, red and blue, numbered 5 to 9, and adds
@@ -66,6 +67,7 @@ sample_controls = record {
   handlers = record { own = 0 ∷ 1 ∷ 2 ∷ 3 ∷ 4 ∷ []; added = [] } ∷ record { own = 5 ∷ 6 ∷ 7 ∷ 8 ∷ 9 ∷ []; added = 0 ∷ [] } ∷ [];
   items = [];
   clusters = [];
+  followers = [];
 }
 
 -- the sample device before a cluster is named: the items of power have names
