@@ -5,5 +5,10 @@ pub mod RangeLemmas
 pub mod NewRowLemmas
 pub mod OverlayLemmas
 pub mod NotifyLemmas
+pub mod RisingLemmas
 pub mod ControlLemmas
 pub mod FollowingLemmas
+pub mod NextLemmas
+pub mod OutsideLemmas
+pub mod LinkLemmas
+pub mod ReachedLemmas

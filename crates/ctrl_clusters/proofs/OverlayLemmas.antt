@@ -149,7 +149,7 @@ unfolding overlay
 overlay_at verdicts plan controls values grabs pairs c lt = get_or-map-range_with_len (value_after verdicts plan controls values grabs pairs) 0 (length values) c c zero_value lt (omega arith)
 
 -- what holds of each of some numbers holds of one of them
-each_of : (n c : ℕ) (cs : List ℕ) → All (λ d. d < n) cs → list_any (nat_eq c) cs ≡ true → c < n
+pub each_of : (n c : ℕ) (cs : List ℕ) → All (λ d. d < n) cs → list_any (nat_eq c) cs ≡ true → c < n
 each_of n c [] all among = cc
 each_of n c (d ∷ cs) all among = by (λ h. each_of n c cs (All-tail (λ d. d < n) d cs all) h) (eqb_tells c d)
   where

@@ -1,4 +1,5 @@
-ghost use Rattle.std.specs.Prelude.{◌≡◌, ◌<◌, ◌↔◌, length, IfOk, IsTrue};
+ghost use Rattle.std.specs.Prelude.{◌≡◌, ◌<◌, ◌↔◌, ℕ, length, IfOk, IsTrue};
+ghost use Rattle.ctrl_settle.specs.Faults.{IsWellFormed};
 ghost use Rattle.ctrl_handlers.specs.Plan.{control_in};
 ghost use Rattle.ctrl_clusters.specs.Ranges.{HasRangeFor, StayControlsOf, modified};
 
@@ -17,11 +18,15 @@ pub struct Ranges {
 
 impl Model for Ranges {
     ghost use Rattle.std.specs.Prelude.{List};
+    ghost use Rattle.std.specs.List.{All};
     ghost use Rattle.ctrl_settle.specs.Control.{Control};
+    ghost use Rattle.ctrl_settle.specs.Faults.{IsWellFormed};
 
     ghost Value = { List Control };
 
     ghost view = { λ r. r.controls.items };
+
+    ghost invariant = { λ r. All IsWellFormed r.controls.items };
 }
 
 impl Ranges {
@@ -57,6 +62,25 @@ impl Ranges {
         self.controls == other.controls
     }
 
+    /// The same once more (of this project).
+    ///
+    /// - `alloc`: where it lies.
+    ///
+    /// The error is that a growth was refused.
+    pub fn copy(&self, alloc: Global) -> Result<Ranges, AllocError>
+        ensures { IfOk result (λ ranges. ranges ≡ self.now) }
+    {
+        let controls = Vec::from_slice(alloc, self.controls.as_slice())?;
+        Ok(Ranges { controls })
+    }
+
+    /// What is always so of these, which a caller may need to know: nothing is wrong with any of them (of this project). It does nothing.
+    pub fn are_sound(&self)
+        ensures { (c : ℕ) → c < length self.now → IsWellFormed (control_in self.now c) }
+    {
+        let _controls = &self.controls;
+    }
+
     /// Gives a control another range (Linux driver API, `v4l2_ctrl_modify_range`). It takes no memory and refuses nothing.
     ///
     /// - `control`: the number of a control; the caller owes one that is there.
@@ -68,6 +92,8 @@ impl Ranges {
         ensures ranges { self.new ≡ modified self.old control changed }
         ensures stay { StayControlsOf self.old self.new }
     {
+        // nothing is wrong with it, as the contract of `id` says
+        let _id = changed.id();
         self.controls[control as usize] = changed;
     }
 }

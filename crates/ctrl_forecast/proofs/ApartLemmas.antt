@@ -8,7 +8,7 @@ use Rattle.ctrl_clusters.specs.Overlay.{is_among, is_touched}
 use Rattle.ctrl_clusters.specs.Rows.{Values, value_at}
 use Rattle.ctrl_forecast.specs.Applied.{applied_pairs, is_refused_in}
 use Rattle.ctrl_forecast.specs.Boards.{named_clusters}
-use Rattle.ctrl_forecast.proofs.RisingLemmas.{among_passing}
+use Rattle.ctrl_clusters.proofs.RisingLemmas.{among_passing}
 
 -- a cluster that pairs don't name has no member among them
 pub not_named : (plan : PlanData) (pairs : List Pair) (k : ℕ) → k < length plan.clusters → list_any (nat_eq k) (named_clusters plan pairs) ≡ false → is_touched pairs (members plan k) ≡ false

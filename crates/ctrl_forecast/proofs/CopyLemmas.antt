@@ -11,7 +11,8 @@ use Rattle.ctrl_clusters.specs.Rows.{Values, value_at, row_of}
 use Rattle.ctrl_clusters.specs.Overlay.{is_touched}
 use Rattle.ctrl_clusters.specs.NewRows.{with_row}
 use Rattle.ctrl_clusters.proofs.NewRowLemmas.{written_one}
-use Rattle.ctrl_forecast.specs.Frames.{AreKeptFrames, FrameData, Setting, base_at, frame_at, no_frame, renewed_at, row_or, row_result, values_before, with_or_without, with_row_result}
+use Rattle.ctrl_clusters.specs.Rising.{with_or_without}
+use Rattle.ctrl_forecast.specs.Frames.{AreKeptFrames, FrameData, Setting, base_at, frame_at, no_frame, renewed_at, row_or, row_result, values_before, with_row_result}
 use Rattle.ctrl_forecast.specs.Unchanged.{are_same_values, is_same_outcome}
 use Rattle.ctrl_forecast.proofs.RenewLemmas.{marked_room}
 use Rattle.ctrl_forecast.proofs.WalkLemmas.{frame_replaced}

@@ -13,7 +13,7 @@ use Rattle.ctrl_forecast.specs.declared.board.Forecast.{Forecast}
 use Rattle.ctrl_forecast.specs.Forecasts.{QueuedData, forecasts}
 use Rattle.ctrl_forecast.specs.Boards.{board_of, named_clusters}
 use Rattle.ctrl_forecast.specs.Frames.{FrameData, no_frame, queued_of, forecast_of, board_seen, Setting, setting, IsKeptFrame, AreKeptFrames, IsRightAt, AreReady, IsClusterRenewed}
-use Rattle.ctrl_forecast.proofs.RisingLemmas.{among_passing, passing_same}
+use Rattle.ctrl_clusters.proofs.RisingLemmas.{among_passing, passing_same}
 use Rattle.ctrl_forecast.proofs.RightLemmas.{overlay_row, overlay_of_rows, refused_touched}
 
 -- what is right behind a frame is so over the values that it leaves

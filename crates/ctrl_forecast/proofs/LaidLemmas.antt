@@ -12,7 +12,8 @@ use Rattle.ctrl_handlers.specs.Plan.{PlanData, members}
 use Rattle.ctrl_clusters.specs.Rows.{Values, Grabs, row_of}
 use Rattle.ctrl_clusters.specs.Overlay.{is_touched, row_after}
 use Rattle.ctrl_clusters.specs.NewRows.{written}
-use Rattle.ctrl_forecast.proofs.LayingLemmas.{values_below, length_below, new_row, below_start, below_own, values_ok, values_err, filter_next, refused_next}
+use Rattle.ctrl_clusters.proofs.RisingLemmas.{filter_next}
+use Rattle.ctrl_forecast.proofs.LayingLemmas.{values_below, length_below, new_row, below_start, below_own, values_ok, values_err, refused_next}
 
 -- what becomes of each cluster, which of them are named, and over what
 pub record Laying : Type 0 where

@@ -2,10 +2,7 @@
 use Rattle.std.proofs.Common.{◌≡◌, ◌≢◌, ℕ, zero, suc, add-one, ◌<◌, ◌≤◌, ◌+◌, ◌==◌, ◌⊎◌, Bool, true, false, cond, nat_eq, List, [], ◌∷◌, ◌++◌, length, map, filter, Option, None, Some, unwrap_or, Result, Ok, Err, inl, inr, refl, ap, sym, ◌∙◌, arith, if◌then◌else◌, count_by}
 use Rattle.std.specs.List.{range_with_len}
 use Rattle.std.proofs.lemmas.Bool.Decides.{eqb_tells}
-use Rattle.std.proofs.lemmas.List.{map-id}
-use Rattle.std.proofs.lemmas.List.Elements.{filter-append}
-use Rattle.std.proofs.lemmas.List.Sums.{sum_by-append, sum_by-cons}
-use Rattle.std.proofs.lemmas.List.FromFn.{length-map-range_with_len, get_or-map-range_with_len, map-range_with_len_more}
+use Rattle.std.proofs.lemmas.List.FromFn.{length-map-range_with_len, get_or-map-range_with_len}
 use Rattle.ctrl_types.specs.Values.{zero_value}
 use Rattle.ctrl_types.specs.declared.value.CtrlValue.{CtrlValue}
 use Rattle.ctrl_types.specs.declared.errno.Errno.{Errno}
@@ -19,6 +16,7 @@ use Rattle.ctrl_clusters.specs.Overlay.{result_value, result_value_in, row_after
 use Rattle.ctrl_clusters.specs.NewRows.{value_among, written}
 use Rattle.ctrl_clusters.specs.declared.new_row.NewRow.{NewRow}
 use Rattle.ctrl_clusters.proofs.NewRowLemmas.{same_values, written_at, length_written}
+use Rattle.ctrl_clusters.proofs.RisingLemmas.{filter_next}
 use Rattle.ctrl_clusters.proofs.OverlayLemmas.{value_own}
 
 -- whether a cluster is the one with this number
@@ -164,20 +162,6 @@ below_end verdicts plan controls values grabs pairs = same_map (range_with_len 0
     same_map : (cs : List ℕ) → map (value_below plan outcome values (length plan.clusters)) cs ≡ map (value_after verdicts plan controls values grabs pairs) cs
     same_map [] = refl
     same_map (c ∷ cs) = rw (by c (cluster_of plan c) refl, same_map cs) refl
-
-range_more : (n : ℕ) → range_with_len 0 (n + 1) ≡ range_with_len 0 n ++ n ∷ []
-range_more n = sym (map-id (range_with_len 0 (n + 1))) ∙ map-range_with_len_more (λ k. k) 0 n n (omega arith) ∙ ap (λ ks. ks ++ n ∷ []) (map-id (range_with_len 0 n))
-
--- one more cluster is among the refused ones, or isn't
-pub filter_next : (p : ℕ → Bool) (n : ℕ) (b : Bool) → p n ≡ b → filter p (range_with_len 0 (n + 1)) ≡ filter p (range_with_len 0 n) ++ cond b (n ∷ []) []
-filter_next p n b is = ap (filter p) (range_more n) ∙ filter-append p (range_with_len 0 n) (n ∷ []) ∙ ap (λ t. filter p (range_with_len 0 n) ++ cond t (n ∷ []) []) is
-
--- and one more counts, or doesn't
-pub count_next : (p : ℕ → Bool) (n : ℕ) → count_by p (range_with_len 0 (n + 1)) ≡ count_by p (range_with_len 0 n) + cond (p n) 1 0
-count_next p n = ap (count_by p) (range_more n) ∙ sum_by-append one (range_with_len 0 n) (n ∷ []) ∙ ap (λ m. count_by p (range_with_len 0 n) + m) (sum_by-cons one n [] ∙ omega arith)
-  where
-    one : ℕ → ℕ
-    one k = cond (p k) 1 0
 
 pub refused_next : (p : ℕ → Bool) (k : ℕ) (b : Bool) (old new : List ℕ) → p k ≡ b → old ≡ filter p (range_with_len 0 k) → new ≡ old ++ cond b (k ∷ []) [] → new ≡ filter p (range_with_len 0 (k + 1))
 refused_next p k b old new is so_far more = more ∙ ap (λ ks. ks ++ cond b (k ∷ []) []) so_far ∙ sym (filter_next p k b is)

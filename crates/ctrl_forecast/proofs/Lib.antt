@@ -2,7 +2,6 @@ pub mod LayingLemmas
 pub mod LaidLemmas
 pub mod ApplyingLemmas
 pub mod BoardLemmas
-pub mod RisingLemmas
 pub mod NamingLemmas
 pub mod RightLemmas
 pub mod RenewLemmas

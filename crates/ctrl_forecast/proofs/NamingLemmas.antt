@@ -12,8 +12,8 @@ use Rattle.ctrl_clusters.specs.Overlay.{is_among, is_touched}
 use Rattle.ctrl_clusters.proofs.NewRowLemmas.{member_apart}
 use Rattle.ctrl_clusters.proofs.OverlayLemmas.{or_true_right}
 use Rattle.ctrl_forecast.specs.Boards.{named_clusters}
-use Rattle.ctrl_forecast.specs.Frames.{others, with_or_without}
-use Rattle.ctrl_forecast.proofs.RisingLemmas.{passing, passing_more, passing_same, with_at, marked_passing}
+use Rattle.ctrl_clusters.specs.Rising.{others, with_or_without}
+use Rattle.ctrl_clusters.proofs.RisingLemmas.{passing, passing_more, passing_same, with_at, marked_passing}
 
 or_false : (a b : Bool) → b ≡ false → (a || b) ≡ a
 or_false true b none = refl
@@ -78,15 +78,3 @@ named_unknown plan pairs p is past =
 
     none : (j : ℕ) → list_any (nat_eq p.control) (members plan j) ≡ false
     none j = list_any_none (nat_eq p.control) (members plan j) (λ i d at. apart (get_or (members plan j) i d) (is.members_known j i d at) (eqb_tells p.control (get_or (members plan j) i d)))
-
--- a cluster that is put among others needs room for one more at most
-pub length_marked : (k : ℕ) (ks : List ℕ) → length (with_or_without k true ks) ≤ length ks + 1
-length_marked k ks =
-    let place : count_by (λ j. nat_lt j k) (others k ks) ≤ length (others k ks) = count_by-le-length (λ j. nat_lt j k) (others k ks) in
-    omega (arith, length-insert (others k ks) (count_by (λ j. nat_lt j k) (others k ks)) k place, fewer)
-  where
-    other : ℕ → Bool
-    other j = not (nat_eq k j)
-
-    fewer : length (others k ks) ≤ length ks
-    fewer = omega (arith, length-filter other ks, count_by-le-length other ks)

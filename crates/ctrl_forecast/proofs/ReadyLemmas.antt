@@ -18,7 +18,7 @@ use Rattle.ctrl_forecast.specs.Forecasts.{QueuedData, forecasts}
 use Rattle.ctrl_clusters.specs.ControlsData.{is_in_one_of}
 use Rattle.ctrl_forecast.specs.Boards.{BoardData, DifferOnlyIn, board_of, named_clusters}
 use Rattle.ctrl_forecast.specs.Frames.{FrameData, no_frame, frame_at, queued_of, forecast_of, board_seen, setting, values_before, IsKeptFrame, AreKeptFrames, IsRightAt, AreReady}
-use Rattle.ctrl_forecast.proofs.RisingLemmas.{among_passing}
+use Rattle.ctrl_clusters.proofs.RisingLemmas.{among_passing}
 use Rattle.ctrl_forecast.proofs.RightLemmas.{right_moves, untouched_row}
 use Rattle.ctrl_forecast.proofs.RenewLemmas.{ranges_agree, grabs_agree}
 use Rattle.ctrl_forecast.proofs.KeptLemmas.{rows_right, rows_frames}

@@ -11,8 +11,9 @@ use Rattle.ctrl_clusters.specs.Rows.{Values, row_of, is_grabbed}
 use Rattle.ctrl_clusters.specs.Overlay.{is_touched}
 use Rattle.ctrl_clusters.proofs.NewRowLemmas.{not_equal, length_written}
 use Rattle.ctrl_forecast.specs.Boards.{named_clusters}
-use Rattle.ctrl_forecast.specs.Frames.{FrameData, no_frame, frame_at, queued_of, Setting, row_result, row_over, values_before, base_at, with_or_without, renewed, renewed_at, AreRisingBelow, IsKeptFrame, AreKeptFrames, IsRightAt, IsClusterRenewed}
-use Rattle.ctrl_forecast.proofs.RisingLemmas.{passing, with_at, among_passing, marked_passing, passing_below}
+use Rattle.ctrl_clusters.specs.Rising.{AreRisingBelow, with_or_without}
+use Rattle.ctrl_forecast.specs.Frames.{FrameData, no_frame, frame_at, queued_of, Setting, row_result, row_over, values_before, base_at, renewed, renewed_at, IsKeptFrame, AreKeptFrames, IsRightAt, IsClusterRenewed}
+use Rattle.ctrl_clusters.proofs.RisingLemmas.{passing, with_at, among_passing, marked_among, marked_passing, marked_rising, passing_below}
 use Rattle.ctrl_forecast.proofs.RightLemmas.{right_moves, over_long, refused_touched, written_row, written_apart}
 
 -- the values before a frame are as many as the controls
@@ -20,16 +21,6 @@ pub base_long : (plan : PlanData) (values : Values) (fs : List FrameData) (i : �
 unfolding AreKeptFrames
 base_long plan values fs zero many are lt = many
 base_long plan values fs (suc i) many are lt = (are i (omega (arith, lt))).long
-
--- which clusters are refused where one is put among them or taken out
-pub marked_among : (n k j : ℕ) (b : Bool) (ks : List ℕ) → AreRisingBelow n ks → k < n → j < n → list_any (nat_eq j) (with_or_without k b ks) ≡ cond (nat_eq k j) b (list_any (nat_eq j) ks)
-marked_among n k j b ks rising lt less =
-    ap (λ (l : List ℕ). list_any (nat_eq j) (with_or_without k b l)) rising.1 ∙ ap (list_any (nat_eq j)) (marked_passing rising.0 k n b lt) ∙ among_passing (with_at rising.0 k b) n j less
-    ∙ ap (cond (nat_eq k j) b) (sym (ap (list_any (nat_eq j)) rising.1 ∙ among_passing rising.0 n j less))
-
--- they are rising still
-pub marked_rising : (n k : ℕ) (b : Bool) (ks : List ℕ) → AreRisingBelow n ks → k < n → AreRisingBelow n (with_or_without k b ks)
-marked_rising n k b ks rising lt = (with_at rising.0 k b, ap (with_or_without k b) rising.1 ∙ marked_passing rising.0 k n b lt)
 
 -- a refused cluster has a member among the pairs, after the outcome of one is written
 marked_touched : (s : Setting) (base : Values) (k j : ℕ) (frame : FrameData) → IsKeptFrame s.plan frame → k < length s.plan.clusters → j < length s.plan.clusters

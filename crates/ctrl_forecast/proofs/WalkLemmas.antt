@@ -12,8 +12,9 @@ use Rattle.ctrl_clusters.specs.NewRows.{one_row, value_among, written}
 use Rattle.ctrl_clusters.proofs.NewRowLemmas.{same_values, length_written, written_at}
 use Rattle.ctrl_clusters.proofs.OverlayLemmas.{value_own}
 use Rattle.ctrl_forecast.specs.Unchanged.{is_same_outcome}
-use Rattle.ctrl_forecast.specs.Frames.{FrameData, frame_at, Setting, row_result, row_over, values_before, base_at, with_or_without, with_row_result, renewed, renewed_at, AreRisingBelow, IsKeptFrame, AreKeptFrames, IsRightAt, IsAlikeIn, IsClusterRenewed}
-use Rattle.ctrl_forecast.proofs.RisingLemmas.{with_at, among_passing, marked_passing, passing_same}
+use Rattle.ctrl_clusters.specs.Rising.{AreRisingBelow, with_or_without}
+use Rattle.ctrl_forecast.specs.Frames.{FrameData, frame_at, Setting, row_result, row_over, values_before, base_at, with_row_result, renewed, renewed_at, IsKeptFrame, AreKeptFrames, IsRightAt, IsAlikeIn, IsClusterRenewed}
+use Rattle.ctrl_clusters.proofs.RisingLemmas.{with_at, among_passing, marked_passing, passing_same}
 use Rattle.ctrl_forecast.proofs.RightLemmas.{right_moves}
 use Rattle.ctrl_forecast.proofs.RenewLemmas.{ranges_agree, grabs_agree, step_at, step_else, step_rows, step_refused, renewed_next}
 use Rattle.ctrl_forecast.proofs.UnchangedLemmas.{same_outcome}

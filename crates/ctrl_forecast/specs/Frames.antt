@@ -12,6 +12,7 @@ use Rattle.ctrl_clusters.specs.Rows.{Values, Grabs, row_of}
 use Rattle.ctrl_clusters.specs.Overlay.{is_touched, row_after, overlay, refused_clusters}
 use Rattle.ctrl_clusters.specs.NewRows.{one_row, written}
 use Rattle.ctrl_clusters.specs.declared.moment.Moment.{Moment}
+use Rattle.ctrl_clusters.specs.Rising.{AreRisingBelow, with_or_without}
 use Rattle.ctrl_forecast.specs.Boards.{BoardData, named_clusters}
 use Rattle.ctrl_forecast.specs.Forecasts.{QueuedData}
 use Rattle.ctrl_forecast.specs.declared.board.Forecast.{Forecast}
@@ -92,14 +93,6 @@ values_before values frames (suc i) = (frame_at frames i).values
 abbrev pub base_at : Setting → List FrameData → ℕ → Values
 base_at s frames i = values_before s.values frames i
 
--- the numbers without one
-abbrev pub others : ℕ → List ℕ → List ℕ
-others k ks = filter (λ j. not (nat_eq k j)) ks
-
--- a number is put among rising ones, in its place, or is taken out
-abbrev pub with_or_without : ℕ → Bool → List ℕ → List ℕ
-with_or_without k b ks = if b then insert (others k ks) (count_by (λ j. nat_lt j k) (others k ks)) k else others k ks
-
 -- a frame where one cluster has a row, and is refused or isn't
 abbrev pub with_row_result : PlanData → ℕ → List CtrlValue → Bool → FrameData → FrameData
 with_row_result plan k row is_refused frame = record frame { values = written plan frame.values (one_row k row); refused = with_or_without k is_refused frame.refused }
@@ -111,10 +104,6 @@ renewed s base k frame = with_row_result s.plan k (row_over s base frame.asked k
 -- frames of which the one at a place is renewed
 abbrev pub renewed_at : Setting → ℕ → ℕ → List FrameData → List FrameData
 renewed_at s k i frames = slice_set frames i (renewed s (base_at s frames i) k (frame_at frames i))
-
--- some of the numbers below another, rising
-abbrev pub AreRisingBelow : ℕ → List ℕ → Type 0
-AreRisingBelow n ks = (p : ℕ → Bool) × (ks ≡ filter p (range_with_len 0 n))
 
 -- What holds of every frame, whatever its values are: it has one for each control, and each refused cluster is one that its pairs name.
 pub record IsKeptFrame (plan : PlanData) (frame : FrameData) : Type 0 where

@@ -5,7 +5,8 @@ ghost use Rattle.std.specs.List.{All, list_any};
 ghost use Rattle.ctrl_types.specs.Values.{is_same};
 ghost use Rattle.ctrl_handlers.specs.Plan.{members};
 ghost use Rattle.ctrl_clusters.specs.Rows.{row_of, value_at};
-ghost use Rattle.ctrl_forecast.specs.Frames.{forecast_of, frame_over, with_or_without, with_row_result};
+ghost use Rattle.ctrl_clusters.specs.Rising.{with_or_without};
+ghost use Rattle.ctrl_forecast.specs.Frames.{forecast_of, frame_over, with_row_result};
 ghost use Rattle.ctrl_forecast.specs.Touched.{touched_count};
 ghost use Rattle.ctrl_forecast.specs.Unchanged.{are_same_values, is_same_outcome};
 
@@ -13,9 +14,9 @@ use crate::applying::is_one_of;
 use crate::board::Forecast;
 use crate::laying::{Overlaid, overlay_named};
 use crate::lists::{ClusterList, ValueRow};
-use crate::rising::{mark, named_clusters};
+use crate::rising::named_clusters;
 use ctrl_calls::{Driver, RowValues, Work};
-use ctrl_clusters::{Moment, write_row};
+use ctrl_clusters::{Moment, mark, write_row};
 use ctrl_handlers::Plan;
 use ctrl_types::{CtrlValue, Pair, RequestId};
 use std::alloc::{AllocError, Global};
@@ -24,9 +25,12 @@ use std::marker::Model;
 /// A queued frame (of this project). Contracts see it as its parts.
 #[derive(Drop)]
 pub struct Queued<'a> {
-    request: RequestId,
-    buffer: u32,
-    asked: &'a [Pair],
+    /// The request.
+    pub request: RequestId,
+    /// The number of its buffer.
+    pub buffer: u32,
+    /// What it asks for; of a control the last pair counts.
+    pub asked: &'a [Pair],
 }
 
 impl<'a> Model for Queued<'a> {

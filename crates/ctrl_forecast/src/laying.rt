@@ -78,9 +78,17 @@ pub(crate) fn overlay_named<D: Driver>(
     })
 }
 
-// Whether a cluster has a member among the pairs, and then makes its row what it is afterwards, where any of its length stands; one without such a member keeps the row
-// that it has in the values. The error is why it is refused. The row says nothing then, nor where no member is among the pairs.
-pub(crate) fn row_after<D: Driver>(
+/// Whether a cluster has a member among pairs, and then makes its row what it is afterwards; one without such a member keeps the row that it has in the values (of this
+/// project; the errors are of the Linux userspace API, "ioctl VIDIOC_G_EXT_CTRLS, VIDIOC_S_EXT_CTRLS, VIDIOC_TRY_EXT_CTRLS"). It takes no memory.
+///
+/// - `at`: the moment with the values.
+/// - `pairs`: what is laid; of a control the last pair counts.
+/// - `cluster`: the number of a cluster; the caller owes one below `Plan::cluster_count`.
+/// - `row`: any row of the cluster's length. It says nothing where no member is among the pairs, nor after an error.
+/// - `work`: its count `asked` grows by at most one, and by none where no member is among the pairs.
+///
+/// The error is why the cluster is refused: EBUSY (16) where a member among the pairs is grabbed, or what the validator answers. Nobody is told.
+pub fn row_after<D: Driver>(
     at: &Moment<D>,
     pairs: &[Pair],
     cluster: u32,
@@ -131,8 +139,11 @@ fn touched_row<D: Driver>(
     validated_row(at, cluster, pairs, row, work)
 }
 
-// Whether some member is among the pairs.
-fn is_touched(pairs: &[Pair], members: &[u32]) -> bool
+/// Whether some control is among pairs (of this project). It takes no memory.
+///
+/// - `pairs`: any pairs.
+/// - `members`: the numbers of the controls.
+pub fn is_touched(pairs: &[Pair], members: &[u32]) -> bool
     ensures { result ≡ is_touched pairs.now members.now }
 {
     members.iter().any(|member| is_among(pairs, *member))

@@ -14,5 +14,6 @@ mod rising;
 pub use applying::applied;
 pub use board::{Board, Forecast, Row};
 pub use frame::Queued;
-pub use laying::{Overlaid, overlay};
+pub use laying::{Overlaid, is_touched, overlay, row_after};
 pub use lists::{ClusterList, ValueRow};
+pub use rising::named_clusters;

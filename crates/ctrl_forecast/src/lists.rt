@@ -19,7 +19,10 @@ impl Model for ValueRow {
 impl ValueRow {
     ghost use Rattle.std.specs.Prelude.{◌≡◌};
 
-    pub(crate) fn from_vec(values: Vec<CtrlValue>) -> ValueRow
+    /// These values (of this project). It takes no further memory.
+    ///
+    /// - `values`: a value for each control, in the order of their numbers.
+    pub fn from_vec(values: Vec<CtrlValue>) -> ValueRow
         ensures { result ≡ values.items }
     {
         ValueRow { values }
@@ -58,7 +61,10 @@ impl Model for ClusterList {
 impl ClusterList {
     ghost use Rattle.std.specs.Prelude.{◌≡◌};
 
-    pub(crate) fn from_vec(clusters: Vec<u32>) -> ClusterList
+    /// These clusters (of this project). It takes no further memory.
+    ///
+    /// - `clusters`: numbers of clusters, rising.
+    pub fn from_vec(clusters: Vec<u32>) -> ClusterList
         ensures { result ≡ clusters.items }
     {
         ClusterList { clusters }

@@ -9,7 +9,8 @@ ghost use Rattle.ctrl_clusters.specs.Rows.{row_of, value_at};
 ghost use Rattle.ctrl_clusters.specs.Overlay.{is_touched};
 ghost use Rattle.ctrl_forecast.specs.Boards.{board_at};
 ghost use Rattle.ctrl_forecast.specs.Forecasts.{named_by_frames, naming_count};
-ghost use Rattle.ctrl_forecast.specs.Frames.{AreKeptFrames, AreReady, AreReadyAt, IsAlikeIn, IsClusterRenewed, IsRightAt, base_at, board_seen, frame_at, queued_of, renewed_at, row_over, row_result, setting_at, values_before, with_or_without, with_row_result};
+ghost use Rattle.ctrl_clusters.specs.Rising.{with_or_without};
+ghost use Rattle.ctrl_forecast.specs.Frames.{AreKeptFrames, AreReady, AreReadyAt, IsAlikeIn, IsClusterRenewed, IsRightAt, base_at, board_seen, frame_at, queued_of, renewed_at, row_over, row_result, setting_at, values_before, with_row_result};
 ghost use Rattle.ctrl_forecast.specs.Unchanged.{is_same_outcome};
 
 use crate::frame::Frame;

@@ -1,16 +1,31 @@
 -- Rising numbers below another: which are among them, how many, and one that is put among them or taken out.
-use Rattle.std.proofs.Common.{◌≡◌, ◌≢◌, ◌∙◌, ◌<◌, ◌≤◌, ◌+◌, ◌++◌, ◌==◌, ◌⊎◌, ◌&&◌, ℕ, zero, suc, add-one, length-append, eq-eqb, nat_eq, nat_lt, Bool, true, false, not, cond, List, [], ◌∷◌, length, filter, count_by, inl, inr, refl, sym, ap, arith}
-use Rattle.std.specs.List.{list_any, range_with_len, insert}
+use Rattle.std.proofs.Common.{◌≡◌, ◌≢◌, ◌∙◌, ◌<◌, ◌≤◌, ◌+◌, ◌++◌, ◌==◌, ◌⊎◌, ◌&&◌, ◌||◌, ℕ, zero, suc, add-one, length-append, eq-eqb, nat_eq, nat_lt, Bool, true, false, not, cond, List, [], ◌∷◌, length, filter, count_by, inl, inr, refl, sym, ap, arith}
+use Rattle.std.specs.List.{All, list_any, range_with_len, insert}
 use Rattle.std.proofs.lemmas.Bool.{lt-ltb, le-ltb}
 use Rattle.std.proofs.lemmas.Bool.Decides.{eqb_tells}
-use Rattle.std.proofs.lemmas.List.{append-nil}
-use Rattle.std.proofs.lemmas.List.Edits.{insert_end, insert-append_left}
+use Rattle.std.proofs.lemmas.List.{append-nil, map-id}
+use Rattle.std.proofs.lemmas.List.Edits.{insert_end, length-insert, insert-append_left}
+use Rattle.std.proofs.lemmas.List.Elements.{All-head, All-tail, filter-append}
+use Rattle.std.proofs.lemmas.List.FromFn.{map-range_with_len_more}
 use Rattle.std.proofs.lemmas.List.Sums.{length-filter, sum_by-append, sum_by-cons, count_by-le-length}
 use Rattle.std.proofs.lemmas.Map.Views.{any-filter_same}
 use Rattle.ctrl_clusters.proofs.NewRowLemmas.{not_equal}
 use Rattle.ctrl_clusters.proofs.OverlayLemmas.{or_true, or_true_right}
-use Rattle.ctrl_forecast.specs.Frames.{others, with_or_without}
-use Rattle.ctrl_forecast.proofs.LayingLemmas.{filter_next, count_next}
+use Rattle.ctrl_clusters.specs.Rising.{AreRisingBelow, others, with_all, with_or_without}
+
+range_more : (n : ℕ) → range_with_len 0 (n + 1) ≡ range_with_len 0 n ++ n ∷ []
+range_more n = sym (map-id (range_with_len 0 (n + 1))) ∙ map-range_with_len_more (λ k. k) 0 n n (omega arith) ∙ ap (λ ks. ks ++ n ∷ []) (map-id (range_with_len 0 n))
+
+-- one more number passes a test, or doesn't
+pub filter_next : (p : ℕ → Bool) (n : ℕ) (b : Bool) → p n ≡ b → filter p (range_with_len 0 (n + 1)) ≡ filter p (range_with_len 0 n) ++ cond b (n ∷ []) []
+filter_next p n b is = ap (filter p) (range_more n) ∙ filter-append p (range_with_len 0 n) (n ∷ []) ∙ ap (λ t. filter p (range_with_len 0 n) ++ cond t (n ∷ []) []) is
+
+-- and one more counts, or doesn't
+pub count_next : (p : ℕ → Bool) (n : ℕ) → count_by p (range_with_len 0 (n + 1)) ≡ count_by p (range_with_len 0 n) + cond (p n) 1 0
+count_next p n = ap (count_by p) (range_more n) ∙ sum_by-append one (range_with_len 0 n) (n ∷ []) ∙ ap (λ m. count_by p (range_with_len 0 n) + m) (sum_by-cons one n [] ∙ omega arith)
+  where
+    one : ℕ → ℕ
+    one k = cond (p k) 1 0
 
 -- the numbers below another at which a test passes
 abbrev pub passing : (ℕ → Bool) → ℕ → List ℕ
@@ -167,3 +182,49 @@ marked_passing p k n true lt =
     by : (b c : Bool) → cond b true (cond b false c) ≡ cond b true c
     by true c = refl
     by false c = refl
+
+-- a number that is put among others needs room for one more at most
+pub length_marked : (k : ℕ) (ks : List ℕ) → length (with_or_without k true ks) ≤ length ks + 1
+length_marked k ks =
+    let place : count_by (λ j. nat_lt j k) (others k ks) ≤ length (others k ks) = count_by-le-length (λ j. nat_lt j k) (others k ks) in
+    omega (arith, length-insert (others k ks) (count_by (λ j. nat_lt j k) (others k ks)) k place, fewer)
+  where
+    other : ℕ → Bool
+    other j = not (nat_eq k j)
+
+    fewer : length (others k ks) ≤ length ks
+    fewer = omega (arith, length-filter other ks, count_by-le-length other ks)
+
+-- some numbers are put among them
+pub all_marked : (p : ℕ → Bool) (js : List ℕ) (n : ℕ) → All (λ j. j < n) js → with_all js (passing p n) ≡ passing (λ k. p k || list_any (nat_eq k) js) n
+all_marked p [] n below = passing_same p (λ k. p k || false) n (λ k lt. by (p k))
+  where
+    by : (b : Bool) → b ≡ (b || false)
+    by true = refl
+    by false = refl
+all_marked p (j ∷ js) n below =
+    ap (with_all js) (marked_passing p j n true (All-head (λ i. i < n) j js below))
+    ∙ all_marked (with_at p j true) js n (All-tail (λ i. i < n) j js below)
+    ∙ passing_same (λ k. with_at p j true k || list_any (nat_eq k) js) (λ k. p k || list_any (nat_eq k) (j ∷ js)) n (λ k lt. either k (eqb_tells j k))
+  where
+    joined : (a c : Bool) → true ≡ (a || (true || c))
+    joined true c = refl
+    joined false c = refl
+
+    either : (k : ℕ) → ((j == k) ≡ true × (j ≡ k)) ⊎ ((j == k) ≡ false × (j ≢ k)) → (cond (nat_eq j k) true (p k) || list_any (nat_eq k) js) ≡ (p k || (nat_eq k j || list_any (nat_eq k) js))
+    either k (inl own) =
+        ap (λ (b : Bool). cond b true (p k) || list_any (nat_eq k) js) own.0 ∙ joined (p k) (list_any (nat_eq k) js)
+        ∙ sym (ap (λ (b : Bool). p k || (b || list_any (nat_eq k) js)) (eq-eqb k j (sym own.1)))
+    either k (inr other) =
+        ap (λ (b : Bool). cond b true (p k) || list_any (nat_eq k) js) other.0
+        ∙ sym (ap (λ (b : Bool). p k || (b || list_any (nat_eq k) js)) (not_equal k j (λ e. other.1 (sym e))))
+
+-- which numbers are among rising ones where one is put among them or taken out
+pub marked_among : (n k j : ℕ) (b : Bool) (ks : List ℕ) → AreRisingBelow n ks → k < n → j < n → list_any (nat_eq j) (with_or_without k b ks) ≡ cond (nat_eq k j) b (list_any (nat_eq j) ks)
+marked_among n k j b ks rising lt less =
+    ap (λ (l : List ℕ). list_any (nat_eq j) (with_or_without k b l)) rising.1 ∙ ap (list_any (nat_eq j)) (marked_passing rising.0 k n b lt) ∙ among_passing (with_at rising.0 k b) n j less
+    ∙ ap (cond (nat_eq k j) b) (sym (ap (list_any (nat_eq j)) rising.1 ∙ among_passing rising.0 n j less))
+
+-- they are rising still
+pub marked_rising : (n k : ℕ) (b : Bool) (ks : List ℕ) → AreRisingBelow n ks → k < n → AreRisingBelow n (with_or_without k b ks)
+marked_rising n k b ks rising lt = (with_at rising.0 k b, ap (with_or_without k b) rising.1 ∙ marked_passing rising.0 k n b lt)
