@@ -4,6 +4,7 @@
 mod counts;
 mod dice;
 mod driver;
+mod following;
 mod planning;
 mod scene;
 mod turns;

@@ -1,0 +1,16 @@
+pub mod SparseLemmas
+pub mod LoadLemmas
+pub mod GivenLemmas
+pub mod RenewedLemmas
+pub mod JudgedLemmas
+pub mod PlaceLemmas
+pub mod JudgedValues
+pub mod FollowedValues
+pub mod SettlingLemmas
+pub mod RenewedFrames
+pub mod RenewalLemmas
+pub mod PushedFrames
+pub mod EndingLemmas
+pub mod WrittenLemmas
+pub mod BoardLemmas
+pub mod RenewedBoards
